@@ -1,0 +1,6 @@
+use Rattle.std.proofs.Common.{◌*◌, ◌^◌, ◌∙◌}
+use Rattle.bv_bits.proofs.WordLemmas.{cut_twice}
+use Rattle.bv_bits.proofs.words.shl.Goals as goal
+
+pub returns : goal.returns
+returns c = c.low.ensures ∙ cut_twice c.args.w (c.args.x * 2 ^ c.args.k) c.requires.at_most

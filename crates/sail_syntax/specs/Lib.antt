@@ -1,0 +1,4 @@
+pub mod Types
+pub mod Tree
+pub mod Program
+pub mod View
