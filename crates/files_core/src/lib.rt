@@ -1,0 +1,18 @@
+//! Where the program's bytes come from and go to: files and a sink as traits, whole reads and whole writes over them.
+#![tactic(auto)]
+
+mod answers;
+mod files;
+mod held_files;
+mod held_sinks;
+mod host;
+mod sink;
+#[cfg(test)]
+mod tests;
+
+pub use answers::{InFault, OutFault, ReadAnswer, WriteAnswer};
+pub use files::{Files, read_all};
+pub use held_files::{File, HonestFiles, MemFiles};
+pub use held_sinks::{MemSink, WholeSink};
+pub use host::{HostFiles, HostSink};
+pub use sink::{Sink, write_all};

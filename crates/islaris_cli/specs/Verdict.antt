@@ -1,0 +1,125 @@
+-- What a check says of three texts: the one answer that they have.
+use Rattle.std.specs.Prelude.{ℕ, Bool, ◌++◌, List, [], ◌∷◌, codes, length, take, bytes_eq, Option, Some, None, if◌then◌else◌, unwrap_or}
+use Rattle.std.specs.Option.{option_map}
+use Rattle.std.specs.Fmt.{decimal}
+use Rattle.sail_syntax.specs.Program.{Definition, registers_of}
+use Rattle.sail_eval.specs.Typing.{has_instr, pc_number}
+use Rattle.machine_core.specs.Program.{machine_of}
+use Rattle.machine_core.specs.First.{Constants}
+use Rattle.islaris_cli.specs.Texts.{Text, address_text, report_text, on_file_text, on_run_text}
+use Rattle.islaris_cli.specs.declared.judge.Answer.{Answer}
+use Rattle.islaris_cli.specs.declared.judge.Answer.TheVariants as answer
+use Rattle.islaris_cli.specs.declared.judge.Names.{Names}
+use Rattle.islaris_cli.specs.declared.proof_form.NamedProof.{NamedProof}
+use Rattle.islaris_cli.specs.declared.proof_form.ReadProof.{ReadProof}
+use Rattle.islaris_cli.specs.declared.proof_form.ReadProof.TheVariants as read
+use Rattle.islaris_cli.specs.declared.run_form.RunEnd.{RunEnd}
+use Rattle.islaris_cli.specs.declared.run_form.RunEnd.TheVariants as run_end
+use Rattle.islaris_cli.specs.SailForm.{sail_form}
+use Rattle.islaris_cli.specs.ProofForm.{◌>>=◌, proof_form}
+use Rattle.islaris_cli.specs.ProofFormPlaces.{places}
+use Rattle.islaris_cli.specs.ProofFormConditions.{constants, constants_of}
+use Rattle.islaris_cli.specs.RunForm.{run_end_of}
+
+-- the names of the Sail text, the image and the proof file
+pub record Row : Type 0 where
+  pub sail : Text
+  pub image : Text
+  pub proof : Text
+
+-- what is said, each with the text that is printed
+pub data Verdict : Type 0 where
+  -- every specification is accepted
+  accept : Text → Verdict
+  -- a rule of checking fails
+  refuse : Text → Verdict
+  -- an input can't be read
+  bad_input : Text → Verdict
+  -- a counted quantity reached its limit
+  beyond : Text → Verdict
+
+-- ---- what is said of inputs
+
+-- the input has a form that isn't read yet
+abbrev pub not_yet : Text → Verdict
+not_yet name = bad_input (on_file_text (codes "input") 57 name (codes "0"))
+
+-- the Sail text has no function `instr`
+abbrev pub no_function : Text → Verdict
+no_function name = bad_input (on_file_text (codes "input") 13 name [])
+
+-- the text is no proof file, which shows at this place
+abbrev pub no_proof : Text → ℕ → Verdict
+no_proof name at = bad_input (on_file_text (codes "input") 39 name (decimal at))
+
+-- ---- what is said of a run
+
+-- the report of a specification over constants that is accepted after so many instructions
+abbrev pub report_of : NamedProof → ℕ → Text
+report_of p count = report_text (record {
+  name = p.spec;
+  exits = record { name = p.exit; address = p.exit_at } ∷ [];
+  blocks = record { name = p.block; address = p.entry_at; instructions = count; certificates = 0 } ∷ [];
+} ∷ [])
+
+-- what is said of the end of a run
+abbrev pub on_end : NamedProof → RunEnd → Verdict
+on_end p (run_end.Accepted count) = accept (report_of p count)
+on_end p (run_end.Wrong at) = refuse (on_run_text (codes "refused") 44 p.spec p.block (Some at) (codes "condition 0 goal 0b0 why false"))
+on_end p (run_end.Outside pc) = refuse (on_run_text (codes "refused") 51 p.spec p.block (Some pc) (codes "pc " ++ address_text pc))
+on_end p (run_end.Fails pc) = refuse (on_run_text (codes "refused") 48 p.spec p.block (Some pc) (codes "fail match"))
+on_end p (run_end.TooMany pc) = beyond (on_run_text (codes "limit") 46 p.spec p.block (Some pc) [])
+
+-- ---- the check
+
+-- the number of the register PC
+abbrev pub pc_in : List Definition → ℕ
+pc_in defs = unwrap_or (pc_number defs) 0
+
+-- the constants of a proof over a program and a raw image, where its conditions hold
+unfoldable pub constants_for : List Definition → NamedProof → Text → Option Constants
+constants_for defs p image =
+    places (registers_of defs) (pc_in defs) p.entry >>= λ entry.
+    places (registers_of defs) (pc_in defs) p.wanted >>= λ wanted.
+    option_map (λ c. constants_of c image) (constants p entry wanted (length (registers_of defs)) (pc_in defs) (length image))
+
+-- with the constants, or without
+abbrev pub on_constants : Row → List Definition → NamedProof → Option Constants → Verdict
+on_constants row defs p None = not_yet row.proof
+on_constants row defs p (Some c) = on_end p (run_end_of (machine_of defs) c)
+
+-- with what the proof file is
+abbrev pub on_proof : Row → List Definition → Text → ReadProof → Verdict
+on_proof row defs image (read.NoProof at) = no_proof row.proof at
+on_proof row defs image read.Outside = not_yet row.proof
+on_proof row defs image (read.Read p) = on_constants row defs p (constants_for defs p image)
+
+-- an image that begins as an ELF file does
+abbrev pub is_elf : Text → Bool
+is_elf image = bytes_eq (take 4 image) (127 ∷ 69 ∷ 76 ∷ 70 ∷ [])
+
+-- with a program that has the function
+abbrev pub on_image : Row → List Definition → Text → Text → Verdict
+on_image row defs image proof = if is_elf image then not_yet row.image else on_proof row defs image (proof_form proof)
+
+-- with the program, where the Sail text is of its form
+abbrev pub on_program : Row → Text → Text → Option (List Definition) → Verdict
+on_program row image proof None = not_yet row.sail
+on_program row image proof (Some defs) = if has_instr defs then on_image row defs image proof else no_function row.sail
+
+-- what is said of the three texts in files of these names
+unfoldable pub verdict : Row → Text → Text → Text → Verdict
+verdict row sail image proof = on_program row image proof (sail_form sail)
+
+-- ---- the code's parts
+
+-- the names as the code has them
+abbrev pub row_named : Names → Row
+row_named names = record { sail = names.sail.now; image = names.image.now; proof = names.proof.now }
+
+-- the verdict that an answer of the code stands for
+abbrev pub verdict_of : Answer → Verdict
+verdict_of (answer.Accept text) = accept text.items
+verdict_of (answer.Refuse text) = refuse text.items
+verdict_of (answer.BadInput text) = bad_input text.items
+verdict_of (answer.Beyond text) = beyond text.items

@@ -1,0 +1,265 @@
+//! What is said of three texts.
+
+ghost use Rattle.std.specs.Prelude.{◌≡◌, ◌<◌, ◌^◌, ◌++◌, length, IfOk, OnOk, Some, codes};
+ghost use Rattle.std.specs.Fmt.{decimal};
+ghost use Rattle.sail_syntax.specs.View.{program_of};
+ghost use Rattle.sail_eval.specs.Typing.{HasWidths, IsCountable};
+ghost use Rattle.sail_eval.specs.Quiet.{IsQuietProgram};
+ghost use Rattle.islaris_cli.specs.Accepted.{IfAccepts, IsAccepted};
+ghost use Rattle.islaris_cli.specs.SailForm.{sail_form};
+ghost use Rattle.islaris_cli.specs.SailFormHolds.{FunctionFits, RegistersFit};
+ghost use Rattle.islaris_cli.specs.ProofForm.{proof_form, AreBits};
+ghost use Rattle.islaris_cli.specs.Verdict as spec;
+ghost use Rattle.islaris_cli.specs.Verdict.{verdict, verdict_of, row_named};
+ghost use Rattle.islaris_cli.specs.Texts.{on_run_text};
+
+use crate::proof_form::{NamedProof, ReadProof, read_proof};
+use crate::proof_form_constants::{ConstantsData, constants};
+use crate::proof_form_places::place_registers;
+use crate::run_form::{RunEnd, run_constants};
+use crate::sail_form::read_sail;
+use crate::texts::{Block, Exit, SpecReport, address, decimal, join, on_file, on_run, report};
+use lex_core::NoMemory;
+use sail_eval::{TypeFault, Typed, check};
+use sail_syntax::Program;
+use sqlite_items::Items;
+use std::alloc::Global;
+
+/// The numbers of refusals and limits.
+const NO_FUNCTION: u32 = 13;
+
+const NO_PROOF: u32 = 39;
+
+const WRONG_END: u32 = 44;
+
+const TOO_MANY: u32 = 46;
+
+const FAILS: u32 = 48;
+
+const OUTSIDE: u32 = 51;
+
+const NOT_YET: u32 = 57;
+
+/// The names of the three files of a check.
+#[derive(Clone, Copy)]
+pub struct Names<'a> {
+    pub sail: &'a str,
+    pub image: &'a str,
+    pub proof: &'a str,
+}
+
+/// What is said of the three texts, with the text that is printed.
+#[derive(Drop)]
+pub enum Answer {
+    /// All is accepted.
+    Accept(Vec<u8>),
+    /// A rule of checking fails.
+    Refuse(Vec<u8>),
+    /// An input can't be read.
+    BadInput(Vec<u8>),
+    /// A limit is passed.
+    Beyond(Vec<u8>),
+}
+
+/// The file has a form that isn't read yet.
+fn not_yet(alloc: Global, name: &str) -> Result<Answer, NoMemory>
+    ensures { IfOk result (λ a. verdict_of a ≡ spec.not_yet name.now) }
+{
+    let text = on_file(alloc, b"input", NOT_YET, name.as_bytes(), b"0")?;
+    Ok(Answer::BadInput(text))
+}
+
+/// The Sail text has no function `instr`.
+fn no_function(alloc: Global, name: &str) -> Result<Answer, NoMemory>
+    ensures { IfOk result (λ a. verdict_of a ≡ spec.no_function name.now) }
+{
+    let text = on_file(alloc, b"input", NO_FUNCTION, name.as_bytes(), b"")?;
+    Ok(Answer::BadInput(text))
+}
+
+/// The text is no proof file, which shows at this place.
+fn no_proof(alloc: Global, name: &str, at: usize) -> Result<Answer, NoMemory>
+    ensures { IfOk result (λ a. verdict_of a ≡ spec.no_proof name.now at) }
+{
+    let place = decimal(alloc, at as u64)?;
+    let text = on_file(alloc, b"input", NO_PROOF, name.as_bytes(), &place)?;
+    Ok(Answer::BadInput(text))
+}
+
+/// The report of a proof that is accepted after so many instructions.
+fn accepted(alloc: Global, proof: &NamedProof, count: u32) -> Result<Vec<u8>, NoMemory>
+    ensures { IfOk result (λ text. text.items ≡ spec.report_of proof.now count) }
+{
+    let mut exits = Items::new(alloc);
+    exits.push(Exit {
+        name: proof.exit.copy(alloc)?,
+        address: proof.exit_at,
+    })?;
+    let mut blocks = Items::new(alloc);
+    blocks.push(Block {
+        name: proof.block.copy(alloc)?,
+        address: proof.entry_at,
+        instructions: count,
+        certificates: 0,
+    })?;
+    let name = proof.spec.copy(alloc)?;
+    let spec = SpecReport {
+        name,
+        exits,
+        blocks,
+    };
+    report(alloc, &[spec])
+}
+
+/// A refusal of the proof's block at an address.
+fn refused(
+    alloc: Global,
+    proof: &NamedProof,
+    number: u32,
+    at: u64,
+    more: &[u8],
+) -> Result<Answer, NoMemory>
+    ensures { IfOk result (λ a. verdict_of a ≡ spec.refuse (on_run_text (codes "refused") number proof.now.spec proof.now.block (Some at) more.now)) }
+{
+    let spec = proof.spec.bytes();
+    let block = proof.block.bytes();
+    let text = on_run(alloc, b"refused", number, spec, block, Some(at), more)?;
+    Ok(Answer::Refuse(text))
+}
+
+/// A fetch that isn't wholly inside the code.
+fn outside(alloc: Global, proof: &NamedProof, pc: u64) -> Result<Answer, NoMemory>
+    ensures { IfOk result (λ a. verdict_of a ≡ spec.on_end proof.now (RunEnd.Outside pc)) }
+{
+    let place = address(alloc, pc)?;
+    let more = join(alloc, &[b"pc ", &place])?;
+    refused(alloc, proof, OUTSIDE, pc, &more)
+}
+
+/// One instruction too many.
+fn too_many(alloc: Global, proof: &NamedProof, pc: u64) -> Result<Answer, NoMemory>
+    ensures { IfOk result (λ a. verdict_of a ≡ spec.on_end proof.now (RunEnd.TooMany pc)) }
+{
+    let spec = proof.spec.bytes();
+    let block = proof.block.bytes();
+    let text = on_run(alloc, b"limit", TOO_MANY, spec, block, Some(pc), b"")?;
+    Ok(Answer::Beyond(text))
+}
+
+/// What is said of the end of a run.
+fn on_end(alloc: Global, proof: &NamedProof, end: RunEnd) -> Result<Answer, NoMemory>
+    ensures { IfOk result (λ a. verdict_of a ≡ spec.on_end proof.now end) }
+{
+    match end {
+        RunEnd::Accepted { count } => Ok(Answer::Accept(accepted(alloc, proof, count)?)),
+        RunEnd::Wrong { at } => {
+            let more = b"condition 0 goal 0b0 why false";
+            refused(alloc, proof, WRONG_END, at, more)
+        }
+        RunEnd::Outside { pc } => outside(alloc, proof, pc),
+        RunEnd::Fails { pc } => refused(alloc, proof, FAILS, pc, b"fail match"),
+        RunEnd::TooMany { pc } => too_many(alloc, proof, pc),
+    }
+}
+
+/// With a program that can be run and what the proof file says: its conditions, and then its run.
+fn judge_proof(
+    alloc: Global,
+    row: &Names<'_>,
+    typed: &Typed,
+    image: &[u8],
+    proof: &NamedProof,
+) -> Result<Answer, NoMemory>
+    requires widths { HasWidths (program_of typed.now) }
+    requires wanted { AreBits proof.now.wanted }
+    requires entry { AreBits proof.now.entry }
+    ensures { IfOk result (λ a. verdict_of a
+        ≡ spec.on_constants (row_named row.now) (program_of typed.now) proof.now (spec.constants_for (program_of typed.now) proof.now image.now)) }
+{
+    let registers = typed.registers();
+    let pc = typed.pc();
+    let Some(entry) = place_registers(alloc, registers, pc, proof.entry.as_slice())? else {
+        return not_yet(alloc, row.proof);
+    };
+    let Some(wanted) = place_registers(alloc, registers, pc, proof.wanted.as_slice())? else {
+        return not_yet(alloc, row.proof);
+    };
+    let Some(given) = constants(proof, entry, wanted, registers.len(), pc, image.len()) else {
+        return not_yet(alloc, row.proof);
+    };
+    let end = run_constants(alloc, typed, &given, image)?;
+    on_end(alloc, proof, end)
+}
+
+/// Whether the image begins as an ELF file does.
+fn is_elf(image: &[u8]) -> bool
+    ensures { result ≡ spec.is_elf image.now }
+{
+    match image {
+        [0x7f, b'E', b'L', b'F', ..] => true,
+        _ => false,
+    }
+}
+
+/// With a program that can be run.
+fn judge_image(
+    alloc: Global,
+    row: &Names<'_>,
+    typed: &Typed,
+    image: &[u8],
+    proof: &[u8],
+) -> Result<Answer, NoMemory>
+    requires widths { HasWidths (program_of typed.now) }
+    ensures { IfOk result (λ a. verdict_of a ≡ spec.on_image (row_named row.now) (program_of typed.now) image.now proof.now) }
+{
+    if is_elf(image) {
+        return not_yet(alloc, row.image);
+    }
+    match read_proof(alloc, proof)? {
+        ReadProof::NoProof { at } => no_proof(alloc, row.proof, at),
+        ReadProof::Outside => not_yet(alloc, row.proof),
+        ReadProof::Read(proof) => judge_proof(alloc, row, typed, image, &proof),
+    }
+}
+
+/// With a program of the form.
+fn judge_program(
+    alloc: Global,
+    row: &Names<'_>,
+    program: Program,
+    image: &[u8],
+    proof: &[u8],
+) -> Result<Answer, NoMemory>
+    requires widths { HasWidths (program_of program) }
+    requires countable { IsCountable (program_of program) }
+    requires quiet { IsQuietProgram (program_of program) }
+    requires function { FunctionFits (program_of program) }
+    ensures { IfOk result (λ a. verdict_of a ≡ spec.on_program (row_named row.now) image.now proof.now (Some (program_of program))) }
+{
+    match check(alloc, program) {
+        Ok(typed) => judge_image(alloc, row, &typed, image, proof),
+        Err(TypeFault::NoInstr) => no_function(alloc, row.sail),
+        // It doesn't come: a program of the form that has the function has the register PC.
+        Err(TypeFault::NoPc) => no_function(alloc, row.sail),
+        Err(TypeFault::NoMemory) => Err(NoMemory),
+    }
+}
+
+/// What is said of three texts in files of these names, of which the first is shorter than 2^32 bytes. `NoMemory` comes
+/// for want of memory alone.
+#[tactic(auto, unfolding(crate::specs::Verdict::verdict))]
+pub fn judge(
+    alloc: Global,
+    row: &Names<'_>,
+    sail: &[u8],
+    image: &[u8],
+    proof: &[u8],
+) -> Result<Answer, NoMemory>
+    requires short { length sail.now < 2 ^ 32 }
+    ensures { IfOk result (λ a. verdict_of a ≡ verdict (row_named row.now) sail.now image.now proof.now) }
+{
+    match read_sail(alloc, sail)? {
+        Some(program) => judge_program(alloc, row, program, image, proof),
+        None => not_yet(alloc, row.sail),
+    }
+}

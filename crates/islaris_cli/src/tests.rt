@@ -1,0 +1,6 @@
+//! Texts and whole checks, worked out by hand.
+
+mod checks;
+mod printed;
+mod proofs;
+mod sails;

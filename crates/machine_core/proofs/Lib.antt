@@ -1,0 +1,6 @@
+pub mod Frame
+pub mod Parts
+pub mod Pc
+pub mod Runs
+pub mod Safety
+pub mod Steps

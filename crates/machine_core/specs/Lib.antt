@@ -1,0 +1,5 @@
+pub mod Machine
+pub mod Program
+pub mod Safe
+pub mod First
+pub mod Answers

@@ -1,0 +1,9 @@
+mod Back
+mod Below
+mod Written
+mod Turns
+mod Weight
+pub mod CoveredLemmas
+pub mod QuietLemmas
+mod Counter
+mod Ending

@@ -1,0 +1,3 @@
+mod View
+mod Present
+mod Zeros

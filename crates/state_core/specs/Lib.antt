@@ -1,0 +1,6 @@
+pub mod State
+pub mod World
+pub mod Memory
+pub mod Agrees
+pub mod Claims
+pub mod Devices

@@ -1,0 +1,12 @@
+//! The state of the machine: registers, bytes by address, answers of devices, and what was done.
+#![tactic(auto)]
+
+mod bytes;
+mod kinds;
+pub mod memory;
+mod state;
+#[cfg(test)]
+mod tests;
+
+pub use kinds::{Access, AccessKind, Answers, DevEvent, DevMap, FaultKind, Log, MemStop, Range};
+pub use state::State;
