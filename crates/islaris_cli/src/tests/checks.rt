@@ -146,6 +146,13 @@ block entry 0x0000000080000000 instructions 4096 certificates 0
     Ok(())
 }
 
+/// The files of the increment, and an empty one of this name.
+fn with_empty(alloc: Global, name: &[u8]) -> Result<Vec<File>, NoMemory> {
+    let mut files = increment(alloc)?;
+    files.push(File::new(Name::of(alloc, name)?, Vec::new(alloc)))?;
+    Ok(files)
+}
+
 #[test]
 fn inputs(rt: HostRuntime) -> Result<(), Fail> {
     let alloc = rt.alloc();
@@ -170,6 +177,26 @@ fn inputs(rt: HostRuntime) -> Result<(), Fail> {
         let files = three(alloc, sail, image.to_vec(alloc)?, proof.to_vec(alloc)?)?;
         assert!(rt; gives(alloc, files, 3, text)?);
     }
+    let empty_proof = ["check", "mini.sail", "inc.bin", "e.ipf"];
+    assert!(rt;
+        answers(
+            alloc,
+            &empty_proof,
+            with_empty(alloc, b"e.ipf")?,
+            3,
+            b"input 39 e.ipf 0\n"
+        )?
+    );
+    let empty_sail = ["check", "e.sail", "inc.bin", "inc.ipf"];
+    assert!(rt;
+        answers(
+            alloc,
+            &empty_sail,
+            with_empty(alloc, b"e.sail")?,
+            3,
+            b"input 13 e.sail\n"
+        )?
+    );
     Ok(())
 }
 
