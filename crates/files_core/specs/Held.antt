@@ -5,6 +5,7 @@ use Rattle.files_core.specs.declared.answers.ReadAnswer.TheVariants as read
 use Rattle.files_core.specs.declared.answers.WriteAnswer.{WriteAnswer}
 use Rattle.files_core.specs.declared.answers.WriteAnswer.TheVariants as write
 use Rattle.files_core.specs.Counts.{next}
+use Rattle.files_core.specs.Reads.{faults_behind, missing_behind}
 
 -- files by name whose reads don't fail, and how often a name wasn't there
 pub record Honest : Type 0 where
@@ -34,10 +35,11 @@ served (Some file) at room = read.Got (min room (length (drop at file)))
 
 -- the files behind a read: one more was asked for, and the answer was counted
 abbrev pub after_read : ReadAnswer → Faulty → Faulty
-after_read (read.Got n) held = record held { asked = next held.asked }
-after_read read.Missing held = record held { asked = next held.asked; missing = next held.missing }
-after_read read.Failed held = record held { asked = next held.asked; faults = next held.faults }
-after_read read.NoMemory held = record held { asked = next held.asked }
+after_read answer held = record held {
+  asked = next held.asked;
+  faults = faults_behind answer held.faults;
+  missing = missing_behind answer held.missing;
+}
 
 -- the sink behind a write of a piece that isn't empty: one more was asked for, and the bytes or the fault are there
 abbrev pub after_write : WriteAnswer → List ℕ → Narrow → Narrow

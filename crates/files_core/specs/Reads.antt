@@ -5,7 +5,7 @@ use Rattle.files_core.specs.declared.answers.ReadAnswer.{ReadAnswer}
 use Rattle.files_core.specs.declared.answers.ReadAnswer.TheVariants as read
 use Rattle.files_core.specs.declared.answers.InFault.{InFault}
 use Rattle.files_core.specs.declared.answers.InFault.TheVariants as fault
-use Rattle.files_core.specs.Counts.{Rose}
+use Rattle.files_core.specs.Counts.{next, Rose}
 use Rattle.files_core.specs.Store.{Store, file_of}
 
 -- the first n bytes of the buffer are those of the file from `at`, and n is 0 for a nonempty buffer only at or past the file's end
@@ -35,6 +35,20 @@ ReadHasCause (read.Got n) missing missing' faults faults' = Unit {0}
 ReadHasCause read.Missing missing missing' faults faults' = Rose missing missing'
 ReadHasCause read.Failed missing missing' faults faults' = Rose faults faults'
 ReadHasCause read.NoMemory missing missing' faults faults' = Unit {0}
+
+-- the count of faults behind an answer: one more behind `Failed` alone
+abbrev pub faults_behind : ReadAnswer → ℕ → ℕ
+faults_behind (read.Got n) faults = faults
+faults_behind read.Missing faults = faults
+faults_behind read.Failed faults = next faults
+faults_behind read.NoMemory faults = faults
+
+-- the count of missing answers behind an answer: one more behind `Missing` alone
+abbrev pub missing_behind : ReadAnswer → ℕ → ℕ
+missing_behind (read.Got n) missing = missing
+missing_behind read.Missing missing = next missing
+missing_behind read.Failed missing = missing
+missing_behind read.NoMemory missing = missing
 
 -- what a whole read answers: the told file, which is within the limit; no told file; a told file past the limit
 abbrev pub IsWholeAnswer : Option Store → List ℕ → ℕ → Result (Vec ℕ Global) InFault → Type 0

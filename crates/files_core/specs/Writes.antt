@@ -3,7 +3,7 @@ use Rattle.std.specs.Prelude.{◌≡◌, ℕ, ◌<◌, ◌≤◌, List, length, 
 use Rattle.files_core.specs.declared.answers.WriteAnswer.{WriteAnswer}
 use Rattle.files_core.specs.declared.answers.WriteAnswer.TheVariants as write
 use Rattle.files_core.specs.declared.answers.OutFault.{OutFault}
-use Rattle.files_core.specs.Counts.{Rose}
+use Rattle.files_core.specs.Counts.{next, Rose}
 
 -- told bytes grow by these, and bytes that aren't told stay untold
 abbrev pub Grows : Option (List ℕ) → List ℕ → Option (List ℕ) → Type 0
@@ -31,6 +31,12 @@ abbrev pub WriteHasCause : WriteAnswer → ℕ → ℕ → Type 0
 WriteHasCause (write.Took n) faults faults' = Unit {0}
 WriteHasCause write.Failed faults faults' = Rose faults faults'
 WriteHasCause write.NoMemory faults faults' = Unit {0}
+
+-- the count of faults behind an answer: one more behind `Failed` alone
+abbrev pub faults_behind : WriteAnswer → ℕ → ℕ
+faults_behind (write.Took n) faults = faults
+faults_behind write.Failed faults = next faults
+faults_behind write.NoMemory faults = faults
 
 -- what the write of an empty piece answers: it took none, and the count stands
 abbrev pub IsEmptyWrite : WriteAnswer → ℕ → ℕ → Type 0

@@ -1,8 +1,9 @@
 // Files that are held in memory.
 
 ghost use Rattle.std.specs.Prelude.{◌≡◌, ◌≤◌, ℕ, List, Contains, MatchBool, MatchOption, IfOk, Some, None, min, length, take, drop, bytes_eq};
+ghost use Rattle.files_core.specs.Counts.{IsCount};
 ghost use Rattle.files_core.specs.Held.{served, after_read};
-ghost use Rattle.files_core.specs.Reads.{IsReadAnswer, ReadHasCause};
+ghost use Rattle.files_core.specs.Reads.{IsReadAnswer, ReadHasCause, missing_behind};
 ghost use Rattle.files_core.specs.Store.{file_of, store_of};
 
 use crate::answers::ReadAnswer;
@@ -93,6 +94,8 @@ pub(crate) fn is_listed(numbers: &[u64], number: u64) -> bool
 }
 
 /// Files in memory whose reads don't fail. The store is told, and the count of faults is always 0.
+///
+/// A read gives as many bytes as there are and the buffer takes, and `Missing` where no file has the name.
 #[derive(Debug, Drop)]
 pub struct HonestFiles {
     files: Vec<File>,
@@ -100,11 +103,14 @@ pub struct HonestFiles {
 }
 
 impl Model for HonestFiles {
+    ghost use Rattle.files_core.specs.Counts.{IsCount};
     ghost use Rattle.files_core.specs.Held.{Honest};
 
     ghost Value = { Honest };
 
     ghost view = { λ h. record { files = h.files.items; missing = h.missing } };
+
+    ghost invariant = { λ h. IsCount h.missing };
 }
 
 impl HonestFiles {
@@ -123,7 +129,15 @@ impl Files for HonestFiles {
 
     ghost missing = { λ h. h.missing };
 
-    fn read_at(&mut self, name: &str, at: u64, buf: &mut [u8]) -> ReadAnswer {
+    fn read_at(&mut self, name: &str, at: u64, buf: &mut [u8]) -> ReadAnswer
+        ensures answer { IsReadAnswer (Some (store_of self.old.files)) name.now at result buf.new }
+        ensures serving { result ≡ served (file_of (store_of self.old.files) name.now) at (length buf.old) }
+        ensures counted { self.new ≡ record self.old { missing = missing_behind result self.old.missing } }
+        ensures cause { ReadHasCause result self.old.missing self.new.missing 0 0 }
+        ensures store { store_of self.new.files ≡ store_of self.old.files }
+        ensures missing { self.old.missing ≤ self.new.missing }
+        ensures ends { IsCount 0 × IsCount self.new.missing }
+    {
         let answer = serve(&self.files, name.as_bytes(), at, buf);
         if answer == ReadAnswer::Missing {
             self.missing = self.missing.saturating_add(1);
@@ -133,6 +147,10 @@ impl Files for HonestFiles {
 }
 
 /// Files in memory, of which chosen reads fail. The store is told.
+///
+/// A read whose number is chosen answers `Failed`, whether the name is there or not. Each other read gives as many
+/// bytes as there are and the buffer takes, and `Missing` where no file has the name. A read with an empty buffer has
+/// a number too. The number of the read and both counts stop at 2^64 - 1.
 #[derive(Debug, Drop)]
 pub struct MemFiles {
     files: Vec<File>,
@@ -143,6 +161,7 @@ pub struct MemFiles {
 }
 
 impl Model for MemFiles {
+    ghost use Rattle.files_core.specs.Counts.{IsCount};
     ghost use Rattle.files_core.specs.Held.{Faulty};
 
     ghost Value = { Faulty };
@@ -154,6 +173,8 @@ impl Model for MemFiles {
       faults = h.faults;
       missing = h.missing;
     } };
+
+    ghost invariant = { λ h. IsCount h.faults × IsCount h.missing };
 }
 
 impl MemFiles {
@@ -189,6 +210,7 @@ impl Files for MemFiles {
         ensures store { store_of self.new.files ≡ store_of self.old.files }
         ensures faults { self.old.faults ≤ self.new.faults }
         ensures missing { self.old.missing ≤ self.new.missing }
+        ensures ends { IsCount self.new.faults × IsCount self.new.missing }
     {
         let number = self.asked;
         self.asked = number.saturating_add(1);

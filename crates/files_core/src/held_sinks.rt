@@ -1,6 +1,7 @@
 // Bytes that are kept in memory.
 
 ghost use Rattle.std.specs.Prelude.{◌≡◌, ◌≢◌, ◌≤◌, ◌<◌, ℕ, List, [], ◌++◌, Contains, IfOk, OnOk, OnErr, Some, min, length, take};
+ghost use Rattle.files_core.specs.Counts.{IsCount};
 ghost use Rattle.files_core.specs.Held.{after_write};
 ghost use Rattle.files_core.specs.Writes.{IsWriteAnswer, IsEmptyWrite, WriteHasCause};
 
@@ -48,7 +49,13 @@ impl Sink for WholeSink {
 
     ghost faults = { λ _. 0 };
 
-    fn write(&mut self, piece: &[u8]) -> WriteAnswer {
+    fn write(&mut self, piece: &[u8]) -> WriteAnswer
+        ensures answer { IsWriteAnswer (Some self.old) piece.now result (Some self.new) }
+        ensures whole { result ≢ WriteAnswer.NoMemory → result ≡ WriteAnswer.Took (length piece.now) }
+        ensures empty { length piece.now ≡ 0 → IsEmptyWrite result 0 0 }
+        ensures cause { WriteHasCause result 0 0 }
+        ensures ends { IsCount 0 }
+    {
         if piece.is_empty() {
             return WriteAnswer::Took(0);
         }
@@ -60,6 +67,9 @@ impl Sink for WholeSink {
 }
 
 /// Keeps bytes, which are told, takes a bounded number of them at a time, and fails at chosen writes.
+///
+/// A write of no bytes answers `Took(0)`, has no number and changes nothing. The number of the write and the count of
+/// faults stop at 2^64 - 1.
 #[derive(Debug, Drop)]
 pub struct MemSink {
     text: Vec<u8>,
@@ -71,6 +81,7 @@ pub struct MemSink {
 
 impl Model for MemSink {
     ghost use Rattle.std.specs.Prelude.{◌<◌};
+    ghost use Rattle.files_core.specs.Counts.{IsCount};
     ghost use Rattle.files_core.specs.Held.{Narrow};
 
     ghost Value = { Narrow };
@@ -83,7 +94,7 @@ impl Model for MemSink {
       faults = s.faults;
     } };
 
-    ghost invariant = { λ s. 0 < s.most };
+    ghost invariant = { λ s. (0 < s.most) × IsCount s.faults };
 }
 
 impl MemSink {
@@ -125,11 +136,12 @@ impl Sink for MemSink {
         ensures counted { 0 < length piece.now → self.new ≡ after_write result piece.now self.old }
         ensures cause { WriteHasCause result self.old.faults self.new.faults }
         ensures faults { self.old.faults ≤ self.new.faults }
+        ensures ends { IsCount self.new.faults }
     {
+        let number = self.asked;
         if piece.is_empty() {
             return WriteAnswer::Took(0);
         }
-        let number = self.asked;
         self.asked = number.saturating_add(1);
         if is_listed(&self.failing, number) {
             self.faults = self.faults.saturating_add(1);

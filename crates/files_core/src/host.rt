@@ -2,7 +2,10 @@
 
 ghost use Rattle.std.specs.Prelude.{◌≡◌, ◌≤◌, None, length};
 ghost use Rattle.std.specs.Io.{ReadsAtMost, WritesAtMost};
-ghost use Rattle.files_core.specs.Counts.{Rose};
+ghost use Rattle.files_core.specs.Counts.{IsCount, next};
+ghost use Rattle.files_core.specs.Reads.{IsReadAnswer, ReadHasCause, faults_behind, missing_behind};
+ghost use Rattle.files_core.specs.Writes.{IsWriteAnswer, IsEmptyWrite, WriteHasCause};
+ghost use Rattle.files_core.specs.Writes as write;
 
 use crate::answers::{ReadAnswer, WriteAnswer};
 use crate::files::Files;
@@ -60,6 +63,7 @@ pub struct HostFiles<R: SystemFiles + Drop> {
     last: Option<OpenFile<R::File>>,
     faults: u64,
     missing: u64,
+    ghost ends: { IsCount faults × IsCount missing },
 }
 
 impl<R: SystemFiles + Drop> HostFiles<R> {
@@ -92,8 +96,7 @@ impl<R: SystemFiles + Drop> HostFiles<R> {
 
     fn count_fault(&mut self) -> ReadAnswer
         ensures answer { result ≡ ReadAnswer.Failed }
-        ensures rose { Rose self.old.faults self.new.faults }
-        ensures faults { self.old.faults ≤ self.new.faults }
+        ensures faults { self.new.faults ≡ next self.old.faults }
         ensures missing { self.new.missing ≡ self.old.missing }
     {
         self.faults = self.faults.saturating_add(1);
@@ -102,9 +105,8 @@ impl<R: SystemFiles + Drop> HostFiles<R> {
 
     fn count_missing(&mut self) -> ReadAnswer
         ensures answer { result ≡ ReadAnswer.Missing }
-        ensures rose { Rose self.old.missing self.new.missing }
         ensures faults { self.new.faults ≡ self.old.faults }
-        ensures missing { self.old.missing ≤ self.new.missing }
+        ensures missing { self.new.missing ≡ next self.old.missing }
     {
         self.missing = self.missing.saturating_add(1);
         ReadAnswer::Missing
@@ -118,7 +120,15 @@ impl<R: SystemFiles + Drop> Files for HostFiles<R> {
 
     ghost missing = { λ h. h.missing };
 
-    fn read_at(&mut self, name: &str, at: u64, buf: &mut [u8]) -> ReadAnswer {
+    fn read_at(&mut self, name: &str, at: u64, buf: &mut [u8]) -> ReadAnswer
+        ensures answer { IsReadAnswer None name.now at result buf.new }
+        ensures counted_faults { self.new.faults ≡ faults_behind result self.old.faults }
+        ensures counted_missing { self.new.missing ≡ missing_behind result self.old.missing }
+        ensures cause { ReadHasCause result self.old.missing self.new.missing self.old.faults self.new.faults }
+        ensures faults { self.old.faults ≤ self.new.faults }
+        ensures missing { self.old.missing ≤ self.new.missing }
+        ensures ends { IsCount self.new.faults × IsCount self.new.missing }
+    {
         let mut file = match self.take_open(name) {
             Some(file) => file,
             None => match open(&self.rt, self.alloc, name) {
@@ -144,6 +154,7 @@ impl<R: SystemFiles + Drop> Files for HostFiles<R> {
 pub struct HostSink<W: Write + Drop> {
     out: W,
     faults: u64,
+    ghost ends: { IsCount faults },
 }
 
 impl<W: Write + Drop> HostSink<W> {
@@ -169,7 +180,14 @@ impl<W: Write + Drop> Sink for HostSink<W> {
 
     ghost faults = { λ s. s.faults };
 
-    fn write(&mut self, piece: &[u8]) -> WriteAnswer {
+    fn write(&mut self, piece: &[u8]) -> WriteAnswer
+        ensures answer { IsWriteAnswer None piece.now result None }
+        ensures empty { length piece.now ≡ 0 → IsEmptyWrite result self.old.faults self.new.faults }
+        ensures counted { self.new.faults ≡ write.faults_behind result self.old.faults }
+        ensures cause { WriteHasCause result self.old.faults self.new.faults }
+        ensures faults { self.old.faults ≤ self.new.faults }
+        ensures ends { IsCount self.new.faults }
+    {
         if piece.is_empty() {
             return WriteAnswer::Took(0);
         }

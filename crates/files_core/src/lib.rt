@@ -6,6 +6,7 @@ mod files;
 mod held_files;
 mod held_sinks;
 mod host;
+mod laws;
 mod sink;
 #[cfg(test)]
 mod tests;
@@ -15,4 +16,5 @@ pub use files::{Files, read_all};
 pub use held_files::{File, HonestFiles, MemFiles};
 pub use held_sinks::{MemSink, WholeSink};
 pub use host::{HostFiles, HostSink};
+pub use laws::rose_or_at_the_end;
 pub use sink::{Sink, write_all};

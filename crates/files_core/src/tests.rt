@@ -11,6 +11,8 @@ const SAIL: &[u8] = b"default Order dec\n";
 
 const IMAGE: &[u8] = b"\x13\x05\x15\x00";
 
+const LONG: usize = 70000;
+
 // Two files, as of a command that names both.
 fn two_files(alloc: Global) -> Result<Vec<File>, NoMemory> {
     let mut files = Vec::new(alloc);
@@ -29,6 +31,15 @@ fn gives<F: Files>(alloc: Global, files: &mut F, name: &str, limit: u64, want: &
     }
 }
 
+// A file of 70,000 bytes, which takes three reads, and one of no byte.
+fn long_and_empty(alloc: Global) -> Result<Vec<File>, NoMemory> {
+    let mut files = Vec::new(alloc);
+    let long = vec![in alloc; 7u8; LONG]?;
+    files.push(File::new(Name::of(alloc, b"long")?, long))?;
+    files.push(File::new(Name::of(alloc, b"empty")?, Vec::new(alloc)))?;
+    Ok(files)
+}
+
 #[test]
 fn third_read_of_all_fails(rt: HostRuntime) -> Result<(), Fail> {
     let alloc = rt.alloc();
@@ -43,18 +54,70 @@ fn third_read_of_all_fails(rt: HostRuntime) -> Result<(), Fail> {
 }
 
 #[test]
-fn limits_of_whole_reads(rt: HostRuntime) -> Result<(), Fail> {
+fn single_reads(rt: HostRuntime) -> Result<(), Fail> {
     let alloc = rt.alloc();
-    let long = vec![in alloc; 7u8; 70000]?;
-    let mut held = Vec::new(alloc);
-    held.push(File::new(Name::of(alloc, b"long")?, long.clone()?))?;
-    held.push(File::new(Name::of(alloc, b"empty")?, Vec::new(alloc)))?;
-    let mut files = HonestFiles::new(held)?;
-    assert!(rt; gives(alloc, &mut files, "long", 70000, &long));
-    let past = read_all(alloc, &mut files, "long", 69999);
+    let mut failing = MemFiles::new(two_files(alloc)?, vec![in alloc; 7, 1]?)?;
+    let mut honest = HonestFiles::new(two_files(alloc)?)?;
+    // Room in the buffer, and what stands in it after the read. Read number 1 fails; number 7 is never asked for.
+    let rows: [(&str, u64, usize, ReadAnswer, [u8; 3]); 6] = [
+        ("inc.bin", 0, 3, ReadAnswer::Got(3), [0x13, 5, 0x15]),
+        ("inc.bin", 3, 3, ReadAnswer::Failed, [9, 9, 9]),
+        ("inc.bin", 3, 3, ReadAnswer::Got(1), [0, 9, 9]),
+        ("inc.bin", u64::MAX, 3, ReadAnswer::Got(0), [9, 9, 9]),
+        ("inc.bin", 0, 0, ReadAnswer::Got(0), [9, 9, 9]),
+        ("inc", 0, 0, ReadAnswer::Missing, [9, 9, 9]),
+    ];
+    for (name, at, room, want, bytes) in rows {
+        let mut buf = [9u8; 3];
+        let answer = failing.read_at(name, at, &mut buf[..room.min(3)]);
+        assert_eq!(rt; answer, want, "{name} at {at}");
+        assert_eq!(rt; buf, bytes, "{name} at {at}");
+        if want != ReadAnswer::Failed {
+            let answer = honest.read_at(name, at, &mut buf[..room.min(3)]);
+            assert_eq!(rt; answer, want, "{name} at {at}");
+        }
+    }
+    Ok(())
+}
+
+#[test]
+fn whole_reads(rt: HostRuntime) -> Result<(), Fail> {
+    let alloc = rt.alloc();
+    // The limit, the number of the read that fails, and the fault; with no fault the whole file is given.
+    let rows: [(&str, usize, u64, u64, Option<InFault>); 12] = [
+        ("long", LONG, 70000, 3, None),
+        ("long", LONG, 70000, 2, Some(InFault::Failed)),
+        ("long", LONG, 70000, 1, Some(InFault::Failed)),
+        ("long", LONG, 70000, 0, Some(InFault::Failed)),
+        ("long", LONG, 69999, 2, Some(InFault::TooLong)),
+        ("long", LONG, 69999, 1, Some(InFault::Failed)),
+        ("long", LONG, 65536, 2, Some(InFault::TooLong)),
+        ("long", LONG, 65535, 1, Some(InFault::TooLong)),
+        ("empty", 0, 0, 1, None),
+        ("empty", 0, 0, 0, Some(InFault::Failed)),
+        ("lon", LONG, 70000, 1, Some(InFault::Missing)),
+        ("lon", LONG, 70000, 0, Some(InFault::Failed)),
+    ];
+    for (name, length, limit, failing, fault) in rows {
+        let mut files = MemFiles::new(long_and_empty(alloc)?, vec![in alloc; failing]?)?;
+        let mut honest = HonestFiles::new(long_and_empty(alloc)?)?;
+        let text = read_all(alloc, &mut files, name, limit);
+        match fault {
+            Some(fault) => assert_eq!(rt; text.err(), Some(fault), "{name} {limit} {failing}"),
+            None => {
+                let Ok(text) = text else {
+                    panic!(rt; "no text of {name}");
+                };
+                assert_eq!(rt; text.len(), length, "{name}");
+                assert!(rt; text.iter().all(|byte| *byte == 7), "{name}");
+                assert!(rt; gives(alloc, &mut honest, name, limit, &text), "{name}");
+            }
+        }
+    }
+    let mut honest = HonestFiles::new(long_and_empty(alloc)?)?;
+    let past = read_all(alloc, &mut honest, "long", 69999);
     assert_eq!(rt; past.err(), Some(InFault::TooLong));
-    assert!(rt; gives(alloc, &mut files, "empty", 0, b""));
-    let missing = read_all(alloc, &mut files, "lon", 70000);
+    let missing = read_all(alloc, &mut honest, "lon", 70000);
     assert_eq!(rt; missing.err(), Some(InFault::Missing));
     Ok(())
 }
@@ -63,13 +126,32 @@ fn limits_of_whole_reads(rt: HostRuntime) -> Result<(), Fail> {
 fn writes_up_to_a_fault(rt: HostRuntime) -> Result<(), Fail> {
     let alloc = rt.alloc();
     let text = b"accepted\nspec inc no sample\n";
-    let mut narrow = MemSink::new(alloc, 10, vec![in alloc; 1]?)?;
-    assert_eq!(rt; narrow.write(b""), WriteAnswer::Took(0));
-    assert_eq!(rt; write_all(&mut narrow, text), Err(OutFault::Failed));
-    assert_eq!(rt; narrow.bytes(), b"accepted\ns".as_slice());
-    assert_eq!(rt; write_all(&mut narrow, b"pec inc no sample\n"), Ok(()));
-    assert_eq!(rt; narrow.bytes(), text.as_slice());
+    // The number of the write that fails, of ten bytes each, and how many bytes are left behind.
+    let rows: [(u64, Result<(), OutFault>, usize); 4] = [
+        (0, Err(OutFault::Failed), 0),
+        (1, Err(OutFault::Failed), 10),
+        (2, Err(OutFault::Failed), 20),
+        (3, Ok(()), 28),
+    ];
+    for (failing, answer, left) in rows {
+        let mut narrow = MemSink::new(alloc, 10, vec![in alloc; failing]?)?;
+        // An empty piece is no write, so it has no number.
+        assert_eq!(rt; narrow.write(b""), WriteAnswer::Took(0));
+        assert_eq!(rt; write_all(&mut narrow, text), answer, "{failing}");
+        assert_eq!(rt; Some(narrow.bytes()), text.get(..left), "{failing}");
+        assert_eq!(rt; narrow.write(b""), WriteAnswer::Took(0));
+        assert_eq!(rt;
+            write_all(&mut narrow, &text[left.min(28)..]),
+            Ok(()),
+            "{failing}"
+        );
+        assert_eq!(rt; narrow.bytes(), text.as_slice(), "{failing}");
+    }
+    let mut single = MemSink::new(alloc, 1, Vec::new(alloc))?;
+    assert_eq!(rt; single.write(text), WriteAnswer::Took(1));
+    assert_eq!(rt; single.bytes(), b"a".as_slice());
     let mut whole = WholeSink::new(alloc)?;
+    assert_eq!(rt; whole.write(b""), WriteAnswer::Took(0));
     assert_eq!(rt; write_all(&mut whole, text), Ok(()));
     assert_eq!(rt; whole.bytes(), text.as_slice());
     Ok(())

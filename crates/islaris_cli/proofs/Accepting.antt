@@ -36,18 +36,21 @@ use Rattle.islaris_cli.specs.SailFormWords.{words}
 use Rattle.islaris_cli.specs.SailFormSyntax.{program}
 use Rattle.islaris_cli.specs.SailFormHolds.{FunctionFits, none, one}
 use Rattle.islaris_cli.specs.ProofForm.{proof_form}
-use Rattle.islaris_cli.specs.ProofFormPlaces.{width_of, is_named, place, place_each, has, if_distinct, are_distinct, places, pair_of}
+use Rattle.islaris_cli.specs.ProofFormPlaces.{is_named, place, place_each, has, if_distinct, are_distinct, places, pair_of}
 use Rattle.islaris_cli.specs.ProofFormConditions.{image_start, constants_of, is_in, covers, constants, IsInside}
 use Rattle.islaris_cli.specs.ProofFormConditions as conditions
 use Rattle.islaris_cli.specs.RunForm.{entry_state, run_end_of}
-use Rattle.islaris_cli.specs.Verdict.{Row, Verdict, accept, refuse, bad_input, beyond, not_yet, no_function, on_end, pc_in, constants_for, on_constants, on_proof, is_elf, on_image, on_program, verdict}
+use Rattle.islaris_cli.specs.Verdict.{Row, Verdict, accept, refuse, bad_input, beyond, not_yet, no_function, on_end, constants_for, on_constants, on_proof, is_elf, on_image, on_program, verdict}
 use Rattle.islaris_cli.specs.Accepted.{IsAccepted}
-use Rattle.islaris_cli.proofs.ProofFormPlacing.{bind_some, some_same, differ_holds}
 use Rattle.islaris_cli.proofs.ProofFormCovering.{covered}
 use Rattle.islaris_cli.proofs.SailFormHolding.{sail-fits, function-fits, is-quiet}
-use Rattle.islaris_cli.proofs.EntryState.{IsSet, is_there, numbers_differ, bytes_there}
+use Rattle.islaris_cli.proofs.EntryState.{IsSet, bytes_there}
 use Rattle.islaris_cli.proofs.FirstPath.{accepted_safe}
 use Rattle.islaris_cli.proofs.RunEnds.{code_ends}
+use Rattle.std.proofs.lemmas.Option.{same_Some}
+use Rattle.std.proofs.lemmas.Option.{cond_some, slice_get_within}
+use Rattle.islaris_cli.proofs.SmallLemmas.{bind_some, mapped, not_true}
+use Rattle.islaris_cli.proofs.ProofFormPlacing.{AreSet, places_set}
 
 abbrev said_number : Verdict → ℕ
 said_number (accept text) = 0
@@ -64,52 +67,7 @@ said_text (beyond text) = text
 other : (v : Verdict) (report : Text) (n : ℕ) → said_number v ≡ suc n → v ≡ accept report → ⊥
 other v report n is e = let h : said_number v ≡ 0 = ap said_number e in absurd (omega (arith, h, is))
 
-cond_some : {A : Type 0} (b : Bool) (x y : A) → (if b then Some x else None) ≡ Some y → (b ≡ true) × (x ≡ y)
-cond_some true x y h = (refl, some_same x y h)
-cond_some false x y h = absurd (cc)
-
-mapped : {A B : Type 0} (f : A → B) (o : Option A) (y : B) → option_map f o ≡ Some y → (x : A) × (o ≡ Some x) × (f x ≡ y)
-mapped f None y h = absurd (cc)
-mapped f (Some x) y h = (x, refl, some_same (f x) y h)
-
-not_false : (b : Bool) → not b ≡ true → b ≡ false
-not_false true h = absurd (cc)
-not_false false h = refl
-
--- ---- values that are placed
-
-place_set : (rs : List RegDecl) (pc : ℕ) (v : NamedValue) (w : PlacedValue) → place rs pc v ≡ Some w → IsSet (map width_of rs) pc (pair_of w)
-unfolding place
-place_set rs pc v w h =
-    let number = bind_some (position_from (is_named v.register) 0 rs) _ w h in
-    let width = bind_some (slice_get (map width_of rs) number.0) _ w number.2 in
-    let test = cond_some (not (number.0 == pc) && width.0 == v.value.width) _ w width.2 in
-    let parts = and_parts (not (number.0 == pc)) (width.0 == v.value.width) test.0 in
-    let apart : number.0 ≢ pc = grind (arith, nat_tests, parts.0) in
-    let wide : width.0 ≡ v.value.width = grind (arith, nat_tests, parts.1) in
-    subst (λ x. IsSet (map width_of rs) pc (pair_of x)) test.1
-    (record { wide = width.1 ∙ ap Some wide; other = apart })
-
-each_set : (rs : List RegDecl) (pc : ℕ) (vs : List NamedValue) (ws : List PlacedValue) → place_each rs pc vs ≡ Some ws → All (IsSet (map width_of rs) pc) (map pair_of ws)
-unfolding place_each
-each_set rs pc [] ws h = subst (λ x. All (IsSet (map width_of rs) pc) (map pair_of x)) (some_same [] ws h) (All-nil (IsSet (map width_of rs) pc))
-each_set rs pc (v ∷ vs) ws h =
-    let first = bind_some (place rs pc v) _ ws h in
-    let others = bind_some (place_each rs pc vs) _ ws first.2 in
-    subst (λ x. All (IsSet (map width_of rs) pc) (map pair_of x)) (some_same (first.0 ∷ others.0) ws others.2)
-    (All-cons (IsSet (map width_of rs) pc) (pair_of first.0) (map pair_of others.0) (place_set rs pc v first.0 first.1) (each_set rs pc vs others.0 others.1))
-
-record AreSet (ws : List ℕ) (pc : ℕ) (vs : List (ℕ × Bits)) : Type 0 where
-  pub each : All (IsSet ws pc) vs
-  pub differ : AllPairs ◌≢◌ (map (λ v. v.0) vs)
-
-places_set : (rs : List RegDecl) (pc : ℕ) (vs : List NamedValue) (ws : List PlacedValue) → places rs pc vs ≡ Some ws → AreSet (map width_of rs) pc (map pair_of ws)
-unfolding places
-places_set rs pc vs ws h =
-    let all = bind_some (place_each rs pc vs) if_distinct ws h in
-    let test = cond_some (are_distinct all.0) all.0 ws all.2 in
-    subst (λ x. AreSet (map width_of rs) pc (map pair_of x)) test.1
-    (record { each = each_set rs pc vs all.0 all.1; differ = numbers_differ (map pair_of all.0) (differ_holds all.0 test.0) })
+-- ---- registers that have values
 
 -- a register that one of the values is of
 contained_by : (v : PlacedValue) (vs : List PlacedValue) (r : ℕ) (b : Bool) → (v.register == r) ≡ b → (b || has vs r) ≡ true
@@ -130,7 +88,7 @@ inside_holds p len c lo hi entry exit h =
     let ends = and_parts (is_in p.lo p.hi p.entry_at) (not (is_in p.lo p.hi p.exit_at)) all.0 in
     let places = and_parts (nat_le image_start p.lo) (nat_le p.hi (image_start + len)) all.1 in
     let entered = and_parts (nat_le p.lo p.entry_at) (nat_lt p.entry_at p.hi) ends.0 in
-    let out : is_in p.lo p.hi p.exit_at ≡ false = not_false (is_in p.lo p.hi p.exit_at) ends.1 in
+    let out : is_in p.lo p.hi p.exit_at ≡ false = not_true (is_in p.lo p.hi p.exit_at) ends.1 in
     let first : image_start ≤ p.lo = leb-true image_start p.lo places.0 in
     let last : p.hi ≤ image_start + len = leb-true p.hi (image_start + len) places.1 in
     let low : p.lo ≤ p.entry_at = leb-true p.lo p.entry_at entered.0 in
@@ -154,14 +112,14 @@ record Fitting (defs : List Definition) (k : Constants) : Type 0 where
   pub each : All (IsSet (machine_of defs).widths (machine_of defs).pc) k.entry
   pub differ : AllPairs ◌≢◌ (map (λ v. v.0) k.entry)
 
-fitting : (defs : List Definition) (p : NamedProof) (image : Text) (entry wanted : List PlacedValue) (c : ConstantsData) → pc_number defs ≡ Some (pc_in defs) → length image ≤ 16777216
-    → AreSet (widths_in defs) (pc_in defs) (map pair_of entry) → AreSet (widths_in defs) (pc_in defs) (map pair_of wanted)
-    → constants p entry wanted (length (registers_of defs)) (pc_in defs) (length image) ≡ Some c → Fitting defs (constants_of c image)
+fitting : (defs : List Definition) (p : NamedProof) (image : Text) (entry wanted : List PlacedValue) (c : ConstantsData) → pc_number defs ≡ Some (machine_of defs).pc → length image ≤ 16777216
+    → AreSet (widths_in defs) (machine_of defs).pc (map pair_of entry) → AreSet (widths_in defs) (machine_of defs).pc (map pair_of wanted)
+    → constants p entry wanted (length (registers_of defs)) (machine_of defs).pc (length image) ≡ Some c → Fitting defs (constants_of c image)
 unfolding constants
 fitting defs p image entry wanted c pc short entry_set wanted_set h =
-    let test = cond_some (conditions.is_inside p (length image) && covers (length (registers_of defs)) (pc_in defs) entry)
+    let test = cond_some (conditions.is_inside p (length image) && covers (length (registers_of defs)) (machine_of defs).pc entry)
     (record { lo = p.lo; hi = p.hi; entry_at = p.entry_at; entry = entry; exit_at = p.exit_at; exit = wanted }) c h in
-    let parts = and_parts (conditions.is_inside p (length image)) (covers (length (registers_of defs)) (pc_in defs) entry) test.0 in
+    let parts = and_parts (conditions.is_inside p (length image)) (covers (length (registers_of defs)) (machine_of defs).pc entry) test.0 in
     let d : ConstantsData = record { lo = p.lo; hi = p.hi; entry_at = p.entry_at; entry = entry; exit_at = p.exit_at; exit = wanted } in
     let in_image = inside_holds p (length image) d refl refl refl refl parts.0 in
     let ends : end_of (constants_of d image) ≡ d.hi = code_ends d image in_image.0 in
@@ -173,32 +131,32 @@ fitting defs p image entry wanted c pc short entry_set wanted_set h =
         place = (omega (arith, ends, last, short));
         entry_inside = ap (λ e. nat_le d.lo d.entry_at && nat_lt d.entry_at e) ends ∙ in_image.1;
         exit_outside = ap (λ e. nat_le d.lo d.exit_at && nat_lt d.exit_at e) ends ∙ in_image.2;
-        owned = λ r below apart. has_contained entry r (covered (length (registers_of defs)) (pc_in defs) entry parts.1 r (omega (arith, below, size)) apart);
+        owned = λ r below apart. has_contained entry r (covered (length (registers_of defs)) (machine_of defs).pc entry parts.1 r (omega (arith, below, size)) apart);
         exit_differ = wanted_set.differ;
-        exit_there = All-weaker (IsSet (widths_in defs) (pc_in defs)) (λ v. v.0 < length (widths_in defs)) (λ v s. is_there (widths_in defs) v.0 v.1.width s.wide) (map pair_of wanted) wanted_set.each;
-        exit_other = All-weaker (IsSet (widths_in defs) (pc_in defs)) (λ v. v.0 ≢ pc_in defs) (λ v s. s.other) (map pair_of wanted) wanted_set.each;
-        pc_there = pc_declared defs (pc_in defs) pc;
+        exit_there = All-weaker (IsSet (widths_in defs) (machine_of defs).pc) (λ v. v.0 < length (widths_in defs)) (λ v s. slice_get_within (widths_in defs) v.0 v.1.width s.wide) (map pair_of wanted) wanted_set.each;
+        exit_other = All-weaker (IsSet (widths_in defs) (machine_of defs).pc) (λ v. v.0 ≢ (machine_of defs).pc) (λ v s. s.other) (map pair_of wanted) wanted_set.each;
+        pc_there = pc_declared defs (machine_of defs).pc pc;
       };
-      wide = pc_wide defs (pc_in defs) pc;
+      wide = pc_wide defs (machine_of defs).pc pc;
       each = entry_set.each;
       differ = entry_set.differ;
     })
 
-for_constants : (defs : List Definition) (p : NamedProof) (image : Text) (k : Constants) → pc_number defs ≡ Some (pc_in defs) → length image ≤ 16777216
+for_constants : (defs : List Definition) (p : NamedProof) (image : Text) (k : Constants) → pc_number defs ≡ Some (machine_of defs).pc → length image ≤ 16777216
     → constants_for defs p image ≡ Some k → Fitting defs k
 unfolding constants_for
 for_constants defs p image k pc short h =
-    let entry = bind_some (places (registers_of defs) (pc_in defs) p.entry) _ k h in
-    let wanted = bind_some (places (registers_of defs) (pc_in defs) p.wanted) _ k entry.2 in
-    let c = mapped (λ c. constants_of c image) (constants p entry.0 wanted.0 (length (registers_of defs)) (pc_in defs) (length image)) k wanted.2 in
+    let entry = bind_some (places (registers_of defs) (machine_of defs).pc p.entry) _ k h in
+    let wanted = bind_some (places (registers_of defs) (machine_of defs).pc p.wanted) _ k entry.2 in
+    let c = mapped (λ c. constants_of c image) (constants p entry.0 wanted.0 (length (registers_of defs)) (machine_of defs).pc (length image)) k wanted.2 in
     subst (Fitting defs) c.2
-    (fitting defs p image entry.0 wanted.0 c.0 pc short (places_set (registers_of defs) (pc_in defs) p.entry entry.0 entry.1)
-    (places_set (registers_of defs) (pc_in defs) p.wanted wanted.0 wanted.1) c.1)
+    (fitting defs p image entry.0 wanted.0 c.0 pc short (places_set (registers_of defs) (machine_of defs).pc p.entry entry.0 entry.1)
+    (places_set (registers_of defs) (machine_of defs).pc p.wanted wanted.0 wanted.1) c.1)
 
 -- ---- the verdict
 
 module _ (row : Row) (sail image proof report : Text) (short : length image ≤ 16777216) (defs : List Definition)
-    (program_is : sail_form sail ≡ Some defs) (quiet : IsQuietProgram defs) (pc : pc_number defs ≡ Some (pc_in defs)) (raw : is_elf image ≡ false) where
+    (program_is : sail_form sail ≡ Some defs) (quiet : IsQuietProgram defs) (pc : pc_number defs ≡ Some (machine_of defs).pc) (raw : is_elf image ≡ false) where
   by_end : (p : NamedProof) (k : Constants) (end : RunEnd) → proof_form proof ≡ read.Read p → constants_for defs p image ≡ Some k → run_end_of (machine_of defs) k ≡ end
       → on_end p end ≡ accept report → IsAccepted sail image proof report
   by_end p k (run_end.Accepted count) proof_is constants_are ends says_so =
@@ -231,13 +189,13 @@ module _ (row : Row) (sail image proof report : Text) (short : length image ≤ 
   by_proof (read.Read p) proof_is says_so = by_constants p (constants_for defs p image) proof_is refl says_so
 
 by_image : (row : Row) (sail image proof report : Text) (defs : List Definition) (elf : Bool) → length image ≤ 16777216 → sail_form sail ≡ Some defs → IsQuietProgram defs
-    → pc_number defs ≡ Some (pc_in defs) → is_elf image ≡ elf → (if elf then not_yet row.image else on_proof row defs image (proof_form proof)) ≡ accept report
+    → pc_number defs ≡ Some (machine_of defs).pc → is_elf image ≡ elf → (if elf then not_yet row.image else on_proof row defs image (proof_form proof)) ≡ accept report
     → IsAccepted sail image proof report
 by_image row sail image proof report defs true short program_is quiet pc is says_so = absurd (other (not_yet row.image) report 1 refl says_so)
 by_image row sail image proof report defs false short program_is quiet pc is says_so = by_proof row sail image proof report short defs program_is quiet pc is (proof_form proof) refl says_so
 
 -- a program that has the function has the PC
-has_pc : (defs : List Definition) → FunctionFits defs → has_instr defs ≡ true → pc_number defs ≡ Some (pc_in defs)
+has_pc : (defs : List Definition) → FunctionFits defs → has_instr defs ≡ true → pc_number defs ≡ Some (machine_of defs).pc
 has_pc defs (none functions lacks) h = absurd (cc)
 has_pc defs (one f functions is has counter) h = counter ∙ ap (λ o. Some (unwrap_or o 0)) (sym counter)
 
@@ -256,13 +214,9 @@ read_fits : (sail : Text) (defs : List Definition) → sail_form sail ≡ Some d
 unfolding sail_form says
 read_fits text defs h =
     let s = mapped program (says text) defs h in
-    let ws = bind_of (words text) form.sail s.0 s.1 in
+    let ws = bind_some (words text) form.sail s.0 s.1 in
     let fits = sail-fits ws.0 s.0 ws.2 in
     subst Reads s.2 (record { quiet = is-quiet s.0; function = function-fits s.0 fits })
-  where
-    bind_of : {A B : Type 0} (o : Option A) (f : A → Option B) (y : B) → option_and_then f o ≡ Some y → (x : A) × (o ≡ Some x) × (f x ≡ Some y)
-    bind_of (Some x) f y h = (x, refl, h)
-    bind_of None f y h = absurd (cc)
 
 by_program : (row : Row) (text image proof report : Text) (o : Option (List Definition)) → length image ≤ 16777216 → sail_form text ≡ o
     → on_program row image proof o ≡ accept report → IsAccepted text image proof report

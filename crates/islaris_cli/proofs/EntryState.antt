@@ -16,8 +16,10 @@ use Rattle.state_core.specs.Claims.{HasBytes}
 use Rattle.machine_core.specs.Machine.{Machine}
 use Rattle.machine_core.specs.First.{Constants, IsPartial}
 use Rattle.std.specs.Prelude.{slice_get}
-use Rattle.std.proofs.lemmas.Option.{get_or_from_slice_get}
+use Rattle.std.proofs.lemmas.Option.{get_or_from_slice_get, slice_get_within}
 use Rattle.islaris_cli.specs.RunForm.{with_values, with_bytes, address_bits, entry_state}
+use Rattle.std.proofs.lemmas.List.Kept.{AllPairs-cons}
+use Rattle.machine_core.proofs.Parts.{pairs_head, pairs_tail}
 
 abbrev none : Bits
 none = record { width = 0; value = 0 }
@@ -26,12 +28,6 @@ none = record { width = 0; value = 0 }
 pub record IsSet (widths : List ℕ) (pc : ℕ) (v : ℕ × Bits) : Type 0 where
   pub wide : slice_get widths v.0 ≡ Some v.1.width
   pub other : v.0 ≢ pc
-
--- a register that has a width is there
-pub is_there : (ws : List ℕ) (r w : ℕ) → slice_get ws r ≡ Some w → r < length ws
-is_there [] r w is = absurd (cc)
-is_there (x ∷ ws) zero w is = omega arith
-is_there (x ∷ ws) (suc r) w is = let h = is_there ws r w is in omega (arith, h)
 
 -- ---- widths
 
@@ -50,15 +46,9 @@ pub values_keep : (ws : List ℕ) (pc : ℕ) (vs : List (ℕ × Bits)) (rs : Lis
 values_keep ws pc [] rs placed is = is
 values_keep ws pc (v ∷ vs) rs placed is =
     let one = All-head (IsSet ws pc) v vs placed in
-    values_keep ws pc vs (slice_set rs v.0 v.1) (All-tail (IsSet ws pc) v vs placed) (kept_width ws rs v.0 v.1 is (is_there ws v.0 v.1.width one.wide) (sym (get_or_from_slice_get ws v.0 v.1.width 0 one.wide)))
+    values_keep ws pc vs (slice_set rs v.0 v.1) (All-tail (IsSet ws pc) v vs placed) (kept_width ws rs v.0 v.1 is (slice_get_within ws v.0 v.1.width one.wide) (sym (get_or_from_slice_get ws v.0 v.1.width 0 one.wide)))
 
 -- ---- values
-
-pairs_head : {X : Type 0} (R : X → X → Type 0) (x : X) (xs : List X) → AllPairs R (x ∷ xs) → All (λ y. R x y) xs
-pairs_head R x xs h k d below = h 0 (suc k) d (omega arith) (omega (arith, below))
-
-pairs_tail : {X : Type 0} (R : X → X → Type 0) (x : X) (xs : List X) → AllPairs R (x ∷ xs) → AllPairs R xs
-pairs_tail R x xs h i j d less below = h (suc i) (suc j) d (omega (arith, less)) (omega (arith, below))
 
 -- values of registers that differ have numbers that differ
 fresh_numbers : (n : ℕ) (vs : List (ℕ × Bits)) → All (λ w. n ≢ w.0) vs → All (λ k. n ≢ k) (map (λ v. v.0) vs)
@@ -66,19 +56,10 @@ fresh_numbers n [] h = All-nil (λ k. n ≢ k)
 fresh_numbers n (v ∷ vs) h =
     All-cons (λ k. n ≢ k) v.0 (map (λ v. v.0) vs) (All-head (λ w. n ≢ w.0) v vs h) (fresh_numbers n vs (All-tail (λ w. n ≢ w.0) v vs h))
 
-pairs_nil : {X : Type 0} (R : X → X → Type 0) → AllPairs R []
-pairs_nil R i j d less below = absurd (omega (arith, below))
-
-pairs_cons : {X : Type 0} (R : X → X → Type 0) (x : X) (xs : List X) → All (λ y. R x y) xs → AllPairs R xs → AllPairs R (x ∷ xs)
-pairs_cons R x xs f p zero zero d less below = absurd (omega (arith, less))
-pairs_cons R x xs f p zero (suc j) d less below = f j d (omega (arith, below))
-pairs_cons R x xs f p (suc i) zero d less below = absurd (omega (arith, less))
-pairs_cons R x xs f p (suc i) (suc j) d less below = p i j d (omega (arith, less)) (omega (arith, below))
-
 pub numbers_differ : (vs : List (ℕ × Bits)) → AllPairs (λ v w. v.0 ≢ w.0) vs → AllPairs ◌≢◌ (map (λ v. v.0) vs)
-numbers_differ [] h = pairs_nil ◌≢◌
+numbers_differ [] h = λ i j d less below. absurd (omega arith)
 numbers_differ (v ∷ vs) h =
-    pairs_cons ◌≢◌ v.0 (map (λ v. v.0) vs) (fresh_numbers v.0 vs (pairs_head (λ v w. v.0 ≢ w.0) v vs h)) (numbers_differ vs (pairs_tail (λ v w. v.0 ≢ w.0) v vs h))
+    AllPairs-cons ◌≢◌ v.0 (map (λ v. v.0) vs) (fresh_numbers v.0 vs (pairs_head (λ v w. v.0 ≢ w.0) v vs h)) (numbers_differ vs (pairs_tail (λ v w. v.0 ≢ w.0) v vs h))
 
 -- a register that no value is for
 unset : (vs : List (ℕ × Bits)) (rs : List Bits) (r : ℕ) → All (λ n. r ≢ n) (map (λ v. v.0) vs) → get_or (with_values vs rs) r none ≡ get_or rs r none
@@ -126,7 +107,7 @@ entry_is_partial m c there wide each differ =
     let size : length given ≡ length m.widths = sym (length-map given width_of) ∙ ap length given_widths in
     let zero_size : length zeros ≡ length m.widths = length-map m.widths zero_of in
     let below : All (λ v. v.0 < length zeros) c.entry =
-    All-weaker (IsSet m.widths m.pc) (λ v. v.0 < length zeros) (λ v p. let t = is_there m.widths v.0 v.1.width p.wide in omega (arith, t, zero_size)) c.entry each in
+    All-weaker (IsSet m.widths m.pc) (λ v. v.0 < length zeros) (λ v p. let t = slice_get_within m.widths v.0 v.1.width p.wide in omega (arith, t, zero_size)) c.entry each in
     let values : All (λ v. get_or given v.0 none ≡ v.1) c.entry = values_there c.entry zeros differ below in
     record {
       widths = kept_width m.widths given m.pc (address_bits c.entry_at) given_widths there (sym wide);

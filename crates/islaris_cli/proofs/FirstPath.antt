@@ -7,30 +7,28 @@ use Rattle.sail_syntax.specs.Program.{Definition}
 use Rattle.state_core.specs.State.{State, register_of}
 use Rattle.state_core.specs.World.{World, start}
 use Rattle.sail_eval.specs.Quiet.{IsQuietProgram}
-use Rattle.sail_eval.proofs.QuietLemmas.{quiet_run, and_first, and_second}
+use Rattle.sail_eval.proofs.QuietLemmas.{quiet_run}
 use Rattle.machine_core.specs.Machine.{Machine, pc_of}
 use Rattle.machine_core.specs.Program.{machine_of}
 use Rattle.machine_core.specs.Safe.{IsSafe}
 use Rattle.machine_core.specs.First.{Constants, Walked, left, outside, fails, too_many, walk_from, FitsForm, spec_of, no_transitions, no_variables}
-use Rattle.machine_core.proofs.Safety.{walked_safe}
+use Rattle.machine_core.proofs.Safety.{same_bits, walked_safe}
 use Rattle.islaris_cli.specs.declared.run_form.RunEnd.{RunEnd}
 use Rattle.islaris_cli.specs.declared.run_form.RunEnd.TheVariants as run_end
 use Rattle.islaris_cli.specs.RunForm.{entry_state, has_bits, has_values, ended_at, most_instructions, run_end_of}
 use Rattle.islaris_cli.proofs.EntryState.{IsSet, entry_is_partial}
-
-same_bits : (a b : Bits) → a.width ≡ b.width → a.value ≡ b.value → a ≡ b
-same_bits a b w v = λ i. record { width = w i; value = v i }
+use Rattle.std.proofs.lemmas.Bool.{and_parts}
 
 has_same : (a b : Bits) → has_bits a b ≡ true → a ≡ b
 has_same a b h =
-    same_bits a b (eqb-true a.width b.width (and_first (nat_eq a.width b.width) (nat_eq a.value b.value) h))
-    (eqb-true a.value b.value (and_second (nat_eq a.width b.width) (nat_eq a.value b.value) h))
+    same_bits a b (eqb-true a.width b.width ((and_parts (nat_eq a.width b.width) (nat_eq a.value b.value) h).0))
+    (eqb-true a.value b.value ((and_parts (nat_eq a.width b.width) (nat_eq a.value b.value) h).1))
 
 values_are_there : (s : State) (vs : List (ℕ × Bits)) → has_values s vs ≡ true → All (λ v. register_of s v.0 ≡ v.1) vs
 values_are_there s [] h = All-nil (λ v. register_of s v.0 ≡ v.1)
 values_are_there s (v ∷ vs) h =
-    All-cons (λ v. register_of s v.0 ≡ v.1) v vs (has_same (register_of s v.0) v.1 (and_first (has_bits (register_of s v.0) v.1) (has_values s vs) h))
-    (values_are_there s vs (and_second (has_bits (register_of s v.0) v.1) (has_values s vs) h))
+    All-cons (λ v. register_of s v.0 ≡ v.1) v vs (has_same (register_of s v.0) v.1 ((and_parts (has_bits (register_of s v.0) v.1) (has_values s vs) h).0))
+    (values_are_there s vs ((and_parts (has_bits (register_of s v.0) v.1) (has_values s vs) h).1))
 
 abbrev end_number : RunEnd → ℕ
 end_number (run_end.Accepted k) = 0
@@ -53,8 +51,8 @@ arrives_by m c count last k w true h e = record {
   count = count;
   last = last;
   is = refl;
-  pc = eqb-true (pc_of m w.state) c.exit_at (and_first (nat_eq (pc_of m w.state) c.exit_at) (has_values w.state c.exit) h);
-  values = values_are_there w.state c.exit (and_second (nat_eq (pc_of m w.state) c.exit_at) (has_values w.state c.exit) h);
+  pc = eqb-true (pc_of m w.state) c.exit_at ((and_parts (nat_eq (pc_of m w.state) c.exit_at) (has_values w.state c.exit) h).0);
+  values = values_are_there w.state c.exit ((and_parts (nat_eq (pc_of m w.state) c.exit_at) (has_values w.state c.exit) h).1);
 }
 arrives_by m c count last k w false h e = let n : 1 ≡ 0 = ap end_number e in absurd (omega (arith, n))
 

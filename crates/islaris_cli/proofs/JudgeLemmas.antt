@@ -13,20 +13,23 @@ use Rattle.islaris_cli.specs.declared.proof_form.NamedProof.{NamedProof}
 use Rattle.islaris_cli.specs.declared.proof_form.NamedValue.{NamedValue}
 use Rattle.islaris_cli.specs.declared.proof_form_places.PlacedValue.{PlacedValue}
 use Rattle.islaris_cli.specs.declared.proof_form_constants.ConstantsData.{ConstantsData}
-use Rattle.islaris_cli.specs.ProofForm.{◌>>=◌, AreBits}
-use Rattle.islaris_cli.specs.ProofFormPlaces.{width_of, places, pair_of, ArePlaced}
+use Rattle.islaris_cli.specs.Binding.{◌>>=◌}
+use Rattle.islaris_cli.specs.ProofForm.{AreBits}
+use Rattle.islaris_cli.specs.ProofFormPlaces.{places, pair_of, ArePlaced}
 use Rattle.islaris_cli.specs.ProofFormConditions.{constants, constants_of}
 use Rattle.islaris_cli.specs.Texts.{Text}
-use Rattle.islaris_cli.specs.Verdict.{Verdict, verdict_of, pc_in, constants_for}
+use Rattle.islaris_cli.specs.Verdict.{Verdict, verdict_of, constants_for}
+use Rattle.sail_eval.specs.Typing.{width_in}
+use Rattle.machine_core.specs.Program.{machine_of}
 
-pub pc_same : (defs : List Definition) (r : ℕ) → Some r ≡ pc_number defs → r ≡ pc_in defs
+pub pc_same : (defs : List Definition) (r : ℕ) → Some r ≡ pc_number defs → r ≡ (machine_of defs).pc
 pc_same defs r is = ap (λ o. unwrap_or o 0) is
 
 -- another verdict that is the same
 pub said_as : (r : Result Answer NoMemory) (v w : Verdict) → w ≡ v → IfOk r (λ a. verdict_of a ≡ v) → IfOk r (λ a. verdict_of a ≡ w)
 said_as r v w is h = subst (λ x. IfOk r (λ a. verdict_of a ≡ x)) (sym is) h
 
-module _ (defs : List Definition) (p : NamedProof) (image : Text) (rs : List RegDecl) (pc : ℕ) (known : rs ≡ registers_of defs) (counter : pc ≡ pc_in defs) where
+module _ (defs : List Definition) (p : NamedProof) (image : Text) (rs : List RegDecl) (pc : ℕ) (known : rs ≡ registers_of defs) (counter : pc ≡ (machine_of defs).pc) where
   constants_from : Option Constants
   constants_from =
       places rs pc p.entry >>= λ entry. places rs pc p.wanted >>= λ wanted.
@@ -35,8 +38,8 @@ module _ (defs : List Definition) (p : NamedProof) (image : Text) (rs : List Reg
   for_is : constants_for defs p image ≡ constants_from
   unfolding constants_for constants_from
   for_is =
-      ap (λ (ds : List RegDecl). places ds (pc_in defs) p.entry >>= λ entry. places ds (pc_in defs) p.wanted >>= λ wanted.
-      option_map (λ c. constants_of c image) (constants p entry wanted (length ds) (pc_in defs) (length image))) (sym known)
+      ap (λ (ds : List RegDecl). places ds (machine_of defs).pc p.entry >>= λ entry. places ds (machine_of defs).pc p.wanted >>= λ wanted.
+      option_map (λ c. constants_of c image) (constants p entry wanted (length ds) (machine_of defs).pc (length image))) (sym known)
       ∙ ap (λ (r : ℕ). places rs r p.entry >>= λ entry. places rs r p.wanted >>= λ wanted.
       option_map (λ c. constants_of c image) (constants p entry wanted (length rs) r (length image))) (sym counter)
 
@@ -60,7 +63,7 @@ module _ (defs : List Definition) (p : NamedProof) (image : Text) (rs : List Reg
       ∙ ap (option_map (λ c. constants_of c image)) (sym is)
 
   pub values_placed : (seen given : List NamedValue) (o : Option (List PlacedValue)) (vs : List PlacedValue) → seen ≡ given → AreBits given
-      → (AreBits seen → IfSome o (λ values. ArePlaced (map width_of rs) pc (map pair_of values))) → o ≡ Some vs → ArePlaced (widths_in defs) pc (map pair_of vs)
+      → (AreBits seen → IfSome o (λ values. ArePlaced (map width_in rs) pc (map pair_of values))) → o ≡ Some vs → ArePlaced (widths_in defs) pc (map pair_of vs)
   values_placed seen given o vs same bits placed is =
-      subst (λ (ds : List RegDecl). ArePlaced (map width_of ds) pc (map pair_of vs)) known
-      (subst (λ (q : Option (List PlacedValue)). IfSome q (λ values. ArePlaced (map width_of rs) pc (map pair_of values))) is (placed (subst AreBits (sym same) bits)))
+      subst (λ (ds : List RegDecl). ArePlaced (map width_in ds) pc (map pair_of vs)) known
+      (subst (λ (q : Option (List PlacedValue)). IfSome q (λ values. ArePlaced (map width_in rs) pc (map pair_of values))) is (placed (subst AreBits (sym same) bits)))

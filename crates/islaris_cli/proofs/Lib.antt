@@ -25,6 +25,7 @@ pub mod SailFormShrinks
 pub mod SailFormSound
 pub mod SailFormWhole
 pub mod SetValues
+pub mod SmallLemmas
 pub mod TextLemmas
 pub mod TopLemmas
 pub mod WordLemmas

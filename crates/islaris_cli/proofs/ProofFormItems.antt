@@ -10,7 +10,8 @@ use Rattle.islaris_cli.specs.declared.proof_form_rest.Stop.TheVariants as stop
 use Rattle.islaris_cli.specs.declared.proof_form_rest.Rest.{Rest}
 use Rattle.islaris_cli.specs.ProofFormReaders.{Gives}
 use Rattle.islaris_cli.specs.ProofFormWords.{Lexeme, the_name, the_mark, name_of, literal_of}
-use Rattle.islaris_cli.specs.ProofForm.{◌>>=◌, Reading, item, items, AreBits}
+use Rattle.islaris_cli.specs.Binding.{◌>>=◌}
+use Rattle.islaris_cli.specs.ProofForm.{Reading, item, items, AreBits}
 
 -- what stands behind a choice, case by case
 pub on_bind : {A B : Type 0} (o : Option A) (f g : A → Option B) → ((x : A) → f x ≡ g x) → (o >>= f) ≡ (o >>= g)

@@ -1,7 +1,7 @@
 -- Placed values: one after the other, and what holds of them.
 use Rattle.std.proofs.Common.{◌≡◌, ◌≢◌, ◌<◌, ◌≤◌, ℕ, suc, ◌+◌, Bool, true, false, not, ◌&&◌, ◌||◌, ◌==◌, List, [], ◌∷◌, ◌++◌, map, length, drop, get_or, drop-cons, All, Option, Some, None, slice_get, refl, subst, sym, ap, ◌∙◌, append_assoc, append-nil, arith}
 use Rattle.std.specs.List.{AllPairs, position_from}
-use Rattle.std.proofs.lemmas.Bool.{and_parts}
+use Rattle.std.proofs.lemmas.Bool.{and_parts, or_parts}
 use Rattle.std.proofs.lemmas.List.{drop_all}
 use Rattle.std.proofs.lemmas.Bool.Decides.{nat_tests}
 use Rattle.std.proofs.lemmas.Option.{cond_some, slice_get_within}
@@ -13,8 +13,13 @@ use Rattle.bv_bits.specs.Bits.{IsBits}
 use Rattle.lex_core.specs.declared.name.RegDecl.{RegDecl}
 use Rattle.islaris_cli.specs.declared.proof_form.NamedValue.{NamedValue}
 use Rattle.islaris_cli.specs.declared.proof_form_places.PlacedValue.{PlacedValue}
-use Rattle.islaris_cli.specs.ProofForm.{◌>>=◌, AreBits}
-use Rattle.islaris_cli.specs.ProofFormPlaces.{is_named, width_of, place, place_each, places, has, are_distinct, if_distinct, pair_of, IsPlaced, ArePlaced}
+use Rattle.islaris_cli.specs.Binding.{◌>>=◌}
+use Rattle.islaris_cli.specs.ProofForm.{AreBits}
+use Rattle.islaris_cli.specs.ProofFormPlaces.{is_named, place, place_each, places, has, are_distinct, if_distinct, pair_of, IsPlaced, ArePlaced}
+use Rattle.std.proofs.lemmas.Option.{same_Some}
+use Rattle.islaris_cli.proofs.SmallLemmas.{bind_some, not_true}
+use Rattle.sail_eval.specs.Typing.{width_in}
+use Rattle.islaris_cli.proofs.EntryState.{IsSet, numbers_differ}
 
 or_true : (b : Bool) → (b || true) ≡ true
 or_true true = refl
@@ -23,26 +28,6 @@ or_true false = refl
 and_false : (b : Bool) → (b && false) ≡ false
 and_false true = refl
 and_false false = refl
-
-or_right : (a b : Bool) → (a || b) ≡ false → b ≡ false
-or_right true b h = absurd cc
-or_right false b h = h
-
-or_parts : (a b : Bool) → (a || b) ≡ false → (a ≡ false) × (b ≡ false)
-or_parts true b h = absurd cc
-or_parts false b h = (refl, h)
-
-not_true : (a : Bool) → not a ≡ true → a ≡ false
-not_true true h = absurd cc
-not_true false h = refl
-
--- what a choice that gave something went through
-pub bind_some : {A B : Type 0} (o : Option A) (f : A → Option B) (y : B) → (o >>= f) ≡ Some y → (x : A) × (o ≡ Some x) × (f x ≡ Some y)
-bind_some None f y h = absurd cc
-bind_some (Some x) f y h = (x, refl, h)
-
-pub some_same : {A : Type 0} (x y : A) → Some x ≡ Some y → x ≡ y
-some_same x y h = cc
 
 -- ---- one after the other
 
@@ -111,7 +96,7 @@ unfolding are_distinct
 distinct_push [] v d h = refl
 distinct_push (w ∷ vs) v d h =
     let parts = and_parts (not (has vs w.register)) (are_distinct vs) d in
-    rw (apart w vs v (w.register == v.register) (has vs w.register) (are_distinct vs) refl refl refl d h, distinct_push vs v parts.1 (or_right (w.register == v.register) (has vs v.register) h)) refl
+    rw (apart w vs v (w.register == v.register) (has vs w.register) (are_distinct vs) refl refl refl d h, distinct_push vs v parts.1 ((or_parts (w.register == v.register) (has vs v.register) h).1)) refl
 
 -- all are placed
 pub all_placed : (rs : List RegDecl) (pc : ℕ) (vs : List PlacedValue) (all : Option (List PlacedValue)) → are_distinct vs ≡ true
@@ -122,34 +107,39 @@ all_placed rs pc vs all d h = sym h ∙ ap if_distinct (append-nil vs) ∙ rw d 
 -- ---- what holds of placed values
 
 -- a value that is placed
-place_holds : (rs : List RegDecl) (pc : ℕ) (v : NamedValue) (w : PlacedValue) → IsBits v.value → place rs pc v ≡ Some w → IsPlaced (map width_of rs) pc (pair_of w)
+place_is : (rs : List RegDecl) (pc : ℕ) (v : NamedValue) (w : PlacedValue) → place rs pc v ≡ Some w → IsSet (map width_in rs) pc (pair_of w) × (v.value ≡ w.value)
 unfolding place
-place_holds rs pc v w bits h =
+place_is rs pc v w h =
     let number = bind_some (position_from (is_named v.register) 0 rs) _ w h in
-    let width = bind_some (slice_get (map width_of rs) number.0) _ w number.2 in
+    let width = bind_some (slice_get (map width_in rs) number.0) _ w number.2 in
     let test = cond_some (not (number.0 == pc) && width.0 == v.value.width) _ w width.2 in
     let parts = and_parts (not (number.0 == pc)) (width.0 == v.value.width) test.0 in
     let other : number.0 ≢ pc = grind (arith, nat_tests, parts.0) in
     let wide : width.0 ≡ v.value.width = grind (arith, nat_tests, parts.1) in
-    subst (λ x. IsPlaced (map width_of rs) pc (pair_of x)) test.1
-    (record {
-      there = slice_get_within (map width_of rs) number.0 width.0 width.1;
-      other = other;
-      wide = width.1 ∙ ap Some wide;
-      bits = bits;
-    })
+    subst (λ x. IsSet (map width_in rs) pc (pair_of x) × (v.value ≡ x.value)) test.1
+    (record { wide = width.1 ∙ ap Some wide; other = other }, refl)
 
--- each that is placed
-each_holds : (rs : List RegDecl) (pc : ℕ) (vs : List NamedValue) (ws : List PlacedValue) → AreBits vs → place_each rs pc vs ≡ Some ws → All (IsPlaced (map width_of rs) pc) (map pair_of ws)
+place_holds : (rs : List RegDecl) (pc : ℕ) (v : NamedValue) (w : PlacedValue) → IsBits v.value → place rs pc v ≡ Some w → IsPlaced (map width_in rs) pc (pair_of w)
+place_holds rs pc v w bits h =
+    let is = place_is rs pc v w h in
+    record {
+      there = slice_get_within (map width_in rs) w.register w.value.width is.0.wide;
+      other = is.0.other;
+      wide = is.0.wide;
+      bits = subst IsBits is.1 bits;
+    }
+
+-- what holds of each that is placed
+each_is : (rs : List RegDecl) (pc : ℕ) (P : NamedValue → Type 0) (Q : ℕ × Bits → Type 0) → ((v : NamedValue) (w : PlacedValue) → P v → place rs pc v ≡ Some w → Q (pair_of w))
+    → (vs : List NamedValue) (ws : List PlacedValue) → All P vs → place_each rs pc vs ≡ Some ws → All Q (map pair_of ws)
 unfolding place_each
-each_holds rs pc [] ws bits h = subst (λ x. All (IsPlaced (map width_of rs) pc) (map pair_of x)) (some_same [] ws h) (All-nil (IsPlaced (map width_of rs) pc))
-each_holds rs pc (v ∷ vs) ws bits h =
+each_is rs pc P Q go [] ws all h = subst (λ x. All Q (map pair_of x)) (same_Some [] ws h) (All-nil Q)
+each_is rs pc P Q go (v ∷ vs) ws all h =
     let first = bind_some (place rs pc v) _ ws h in
     let others = bind_some (place_each rs pc vs) _ ws first.2 in
-    subst (λ x. All (IsPlaced (map width_of rs) pc) (map pair_of x)) (some_same (first.0 ∷ others.0) ws others.2)
-    (All-cons (IsPlaced (map width_of rs) pc) (pair_of first.0) (map pair_of others.0)
-    (place_holds rs pc v first.0 (All-head (λ x. IsBits x.value) v vs bits) first.1)
-    (each_holds rs pc vs others.0 (All-tail (λ x. IsBits x.value) v vs bits) others.1))
+    subst (λ x. All Q (map pair_of x)) (same_Some (first.0 ∷ others.0) ws others.2)
+    (All-cons Q (pair_of first.0) (map pair_of others.0) (go v first.0 (All-head P v vs all) first.1)
+    (each_is rs pc P Q go vs others.0 (All-tail P v vs all) others.1))
 
 -- none of the values is that of this register
 has_none : (vs : List PlacedValue) (w : PlacedValue) → has vs w.register ≡ false → All (λ v. w.register ≢ v.0) (map pair_of vs)
@@ -167,14 +157,36 @@ differ_holds (v ∷ vs) h =
     let parts = and_parts (not (has vs v.register)) (are_distinct vs) h in
     AllPairs-cons (λ (v w : ℕ × Bits). v.0 ≢ w.0) (pair_of v) (map pair_of vs) (has_none vs v (not_true (has vs v.register) parts.0)) (differ_holds vs parts.1)
 
--- values that are placed are the values of registers
-pub places_hold : (rs : List RegDecl) (pc : ℕ) (vs : List NamedValue) (ws : List PlacedValue) → AreBits vs → places rs pc vs ≡ Some ws → ArePlaced (map width_of rs) pc (map pair_of ws)
+-- values that are placed are of registers that differ
+places_are : (rs : List RegDecl) (pc : ℕ) (vs : List NamedValue) (ws : List PlacedValue) → places rs pc vs ≡ Some ws → (place_each rs pc vs ≡ Some ws) × (are_distinct ws ≡ true)
 unfolding places
-places_hold rs pc vs ws bits h =
+places_are rs pc vs ws h =
     let all = bind_some (place_each rs pc vs) if_distinct ws h in
     let test = cond_some (are_distinct all.0) all.0 ws all.2 in
-    subst (λ x. ArePlaced (map width_of rs) pc (map pair_of x)) test.1
-    (record { each = each_holds rs pc vs all.0 bits all.1; differ = differ_holds all.0 test.0 })
+    subst (λ x. (place_each rs pc vs ≡ Some x) × (are_distinct x ≡ true)) test.1 (all.1, test.0)
+
+-- values that are placed are the values of registers
+pub places_hold : (rs : List RegDecl) (pc : ℕ) (vs : List NamedValue) (ws : List PlacedValue) → AreBits vs → places rs pc vs ≡ Some ws → ArePlaced (map width_in rs) pc (map pair_of ws)
+places_hold rs pc vs ws bits h =
+    let are = places_are rs pc vs ws h in
+    record {
+      each = each_is rs pc (λ v. IsBits v.value) (IsPlaced (map width_in rs) pc) (place_holds rs pc) vs ws bits are.0;
+      differ = differ_holds ws are.1;
+    }
+
+-- values of registers that are there and differ
+pub record AreSet (ws : List ℕ) (pc : ℕ) (vs : List (ℕ × Bits)) : Type 0 where
+  pub each : All (IsSet ws pc) vs
+  pub differ : AllPairs ◌≢◌ (map (λ v. v.0) vs)
+
+-- the same of values that may be no bit vectors
+pub places_set : (rs : List RegDecl) (pc : ℕ) (vs : List NamedValue) (ws : List PlacedValue) → places rs pc vs ≡ Some ws → AreSet (map width_in rs) pc (map pair_of ws)
+places_set rs pc vs ws h =
+    let are = places_are rs pc vs ws h in
+    record {
+      each = each_is rs pc (λ v. Unit {0}) (IsSet (map width_in rs) pc) (λ v w _ is. (place_is rs pc v w is).0) vs ws (λ _ _ _. tt) are.0;
+      differ = numbers_differ (map pair_of ws) (differ_holds ws are.1);
+    }
 
 -- none is placed at the start
 pub begun_placed : (rs : List RegDecl) (pc : ℕ) (given : List NamedValue) (vs : List PlacedValue) → vs ≡ [] → (place_each rs pc given >>= λ rest. if_distinct (vs ++ rest)) ≡ places rs pc given

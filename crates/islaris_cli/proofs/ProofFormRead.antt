@@ -17,10 +17,12 @@ use Rattle.islaris_cli.specs.declared.proof_form.NamedValue.{NamedValue}
 use Rattle.islaris_cli.specs.declared.proof_form.NamedProof.{NamedProof}
 use Rattle.islaris_cli.specs.ProofFormWords.{Lexeme, lexemes, Word, Is, Spell, kept, name_of, mark_of, number_of, literal_of, address_of, full_address_of, the_name, the_mark, the_version, free_name_of, is_free, is_close, name, mark, number, address, full_address, literal}
 use Rattle.islaris_cli.specs.ProofForm as spec
-use Rattle.islaris_cli.specs.ProofForm.{◌>>=◌, Reading}
+use Rattle.islaris_cli.specs.Binding.{◌>>=◌}
+use Rattle.islaris_cli.specs.ProofForm.{Reading}
 use Rattle.islaris_cli.specs.ProofFormSpelling.{item_words, body_words, head_words, code_words, exit_words, block_words, tail_words, spelling, AreNames}
 use Rattle.islaris_cli.proofs.ProofFormItems.{item_five}
 use Rattle.islaris_cli.proofs.ProofFormSpelled.{SpellTo, done, step}
+use Rattle.islaris_cli.proofs.SmallLemmas.{bytes_itself, not_true}
 
 -- words of all lexemes
 pub spell_all : (ws : List Word) (xs : List Lexeme) → Spell ws xs → SpellTo ws xs []
@@ -29,17 +31,10 @@ spell_all [] (x ∷ xs) h = absurd h
 spell_all (w ∷ ws) [] h = absurd h
 spell_all (w ∷ ws) (x ∷ xs) h = step w x ws xs [] h.0 (spell_all ws xs h.1)
 
-not_true : (a : Bool) → not a ≡ true → a ≡ false
-not_true true h = absurd cc
-not_true false h = refl
-
 -- ---- one lexeme
 
 keep : {A : Type 0} (p : A → Bool) (o : Option A) (x : A) → o ≡ Some x → p x ≡ true → kept p o ≡ Some x
 keep p o x e h = rw (e, h) refl
-
-bytes_same : (z : Text) → bytes_eq z z ≡ true
-bytes_same z = grind (arith, bytes_eq-Decides)
 
 one_first : {A : Type 0} (f : Kind → Text → Option A) (x : Lexeme) (xs : List Lexeme) (v : A) → f x.kind x.bytes ≡ Some v → spec.one f (x ∷ xs) ≡ Some (v, xs)
 one_first f x xs v h = rw h refl
@@ -49,10 +44,10 @@ over_first f x xs v h = rw h refl
 
 -- each in front of other words
 word_off : {P : Type 0} (z : Text) (ws : List Word) (xs rest : List Lexeme) → SpellTo (name z ∷ ws) xs rest → ((ys : List Lexeme) → spec.word z xs ≡ Some ys → SpellTo ws ys rest → P) → P
-word_off z ws _ rest (step _ x _ xs _ is h) k = k xs (over_first (the_name z) x xs z (keep (λ y. bytes_eq y z) (name_of x.kind x.bytes) z is (bytes_same z))) h
+word_off z ws _ rest (step _ x _ xs _ is h) k = k xs (over_first (the_name z) x xs z (keep (λ y. bytes_eq y z) (name_of x.kind x.bytes) z is (bytes_itself z))) h
 
 mark_off : {P : Type 0} (z : Text) (ws : List Word) (xs rest : List Lexeme) → SpellTo (mark z ∷ ws) xs rest → ((ys : List Lexeme) → spec.mark z xs ≡ Some ys → SpellTo ws ys rest → P) → P
-mark_off z ws _ rest (step _ x _ xs _ is h) k = k xs (over_first (the_mark z) x xs z (keep (λ y. bytes_eq y z) (mark_of x.kind x.bytes) z is (bytes_same z))) h
+mark_off z ws _ rest (step _ x _ xs _ is h) k = k xs (over_first (the_mark z) x xs z (keep (λ y. bytes_eq y z) (mark_of x.kind x.bytes) z is (bytes_itself z))) h
 
 version_off : {P : Type 0} (ws : List Word) (xs rest : List Lexeme) → SpellTo (number 1 ∷ ws) xs rest → ((ys : List Lexeme) → spec.over the_version xs ≡ Some ys → SpellTo ws ys rest → P) → P
 version_off ws _ rest (step _ x _ xs _ is h) k = k xs (over_first the_version x xs 1 (keep (λ n. n == 1) (number_of x.kind x.bytes) 1 is refl)) h

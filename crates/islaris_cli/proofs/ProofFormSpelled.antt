@@ -15,10 +15,12 @@ use Rattle.islaris_cli.specs.declared.proof_form.NamedValue.{NamedValue}
 use Rattle.islaris_cli.specs.declared.proof_form.NamedProof.{NamedProof}
 use Rattle.islaris_cli.specs.ProofFormWords.{Lexeme, lexemes, Word, Is, Spell, kept, name_of, mark_of, number_of, literal_of, address_of, full_address_of, the_name, the_mark, the_version, free_name_of, is_free, is_close, name, mark, number, address, full_address, literal}
 use Rattle.islaris_cli.specs.ProofForm as spec
-use Rattle.islaris_cli.specs.ProofForm.{◌>>=◌, Reading}
+use Rattle.islaris_cli.specs.Binding.{◌>>=◌}
+use Rattle.islaris_cli.specs.ProofForm.{Reading}
 use Rattle.islaris_cli.specs.ProofFormSpelling.{item_words, body_words, head_words, code_words, exit_words, block_words, tail_words, spelling, AreNames}
-use Rattle.islaris_cli.proofs.ProofFormPlacing.{bind_some, some_same}
 use Rattle.islaris_cli.proofs.ProofFormItems.{five_some, item_five}
+use Rattle.std.proofs.lemmas.Option.{same_Some}
+use Rattle.islaris_cli.proofs.SmallLemmas.{bind_some}
 
 -- the words spell the front of the lexemes, up to these
 pub data SpellTo : List Word → List Lexeme → List Lexeme → Type 0 where
@@ -46,7 +48,6 @@ spell_whole _ _ _ (done []) e = tt
 spell_whole _ _ _ (done (x ∷ rest)) e = absurd cc
 spell_whole _ _ rest (step w x ws xs _ is h) e = (is, spell_whole ws xs rest h e)
 
--- what a choice that gave something went through
 pub through : {A B P : Type 0} (o : Option A) (f : A → Option B) (y : B) → (o >>= f) ≡ Some y → ((x : A) → o ≡ Some x → f x ≡ Some y → P) → P
 through None f y h k = absurd cc
 through (Some x) f y h k = k x refl h
@@ -66,14 +67,14 @@ pub one_spelled : {A : Type 0} (f : Kind → Text → Option A) (xs : List Lexem
 one_spelled f [] y h = absurd cc
 one_spelled f (x ∷ xs) y h =
     let read = bind_some (f x.kind x.bytes) _ y h in
-    let same = some_same (read.0, xs) y read.2 in
+    let same = same_Some (read.0, xs) y read.2 in
     (x, ap (λ p. x ∷ p.1) same, read.1 ∙ ap (λ p. Some p.0) same)
 
 over_spelled : {A : Type 0} (f : Kind → Text → Option A) (xs rest : List Lexeme) → spec.over f xs ≡ Some rest → (x : Lexeme) × (v : A) × (xs ≡ x ∷ rest) × (f x.kind x.bytes ≡ Some v)
 over_spelled f xs rest h =
     let found = bind_some (spec.one f xs) (λ found. Some found.1) rest h in
     let one = one_spelled f xs found.0 found.1 in
-    (one.0, found.0.0, one.1 ∙ ap (λ ys. one.0 ∷ ys) (some_same found.0.1 rest found.2), one.2)
+    (one.0, found.0.0, one.1 ∙ ap (λ ys. one.0 ∷ ys) (same_Some found.0.1 rest found.2), one.2)
 
 -- each in front of other words
 word_on : (z : Text) (ws : List Word) (xs mid rest : List Lexeme) → spec.word z xs ≡ Some mid → SpellTo ws mid rest → SpellTo (name z ∷ ws) xs rest
@@ -127,7 +128,7 @@ item_spelled xs y h =
     through (spec.mark (codes "=") register.1) _ y k2 (λ equals h3 k3.
     through (spec.one literal_of equals) _ y k3 (λ value h4 k4.
     through (spec.mark (codes ";") value.1) _ y k4 (λ end h5 k5.
-    subst (λ p. SpellTo (item_words p.0) xs p.1) (some_same (record { register = register.0; value = value.0 }, end) y k5)
+    subst (λ p. SpellTo (item_words p.0) xs p.1) (same_Some (record { register = register.0; value = value.0 }, end) y k5)
     (word_on (codes "reg") _ xs begun end h1 (name_on _ begun end register h2 (mark_on (codes "=") _ register.1 equals end h3
     (literal_on _ equals end value h4 (mark_on (codes ";") _ value.1 end end h5 (done end))))))
     )))))
@@ -135,7 +136,7 @@ item_spelled xs y h =
 -- items up to the end
 items_spelled : (xs : List Lexeme) (vs : List NamedValue) → spec.items xs ≡ Some vs → SpellTo (flat_map item_words vs) xs []
 unfolding spec.items
-items_spelled [] vs h = subst (λ x. SpellTo (flat_map item_words x) [] []) (some_same [] vs h) (done [])
+items_spelled [] vs h = subst (λ x. SpellTo (flat_map item_words x) [] []) (same_Some [] vs h) (done [])
 items_spelled (r ∷ []) vs h = absurd cc
 items_spelled (r ∷ n ∷ []) vs h = absurd cc
 items_spelled (r ∷ n ∷ e ∷ []) vs h = absurd cc
@@ -145,7 +146,7 @@ items_spelled (r ∷ n ∷ e ∷ l ∷ s ∷ xs) vs h =
     through (spec.items xs) _ vs k1 (λ others h2 k2.
     let none : first.1 ≡ [] = (five_some r n e l s [] first (sym (item_five r n e l s []) ∙ h1)).0 in
     let five = spell_before (item_words first.0) (r ∷ n ∷ e ∷ l ∷ s ∷ []) first.1 xs none (item_spelled (r ∷ n ∷ e ∷ l ∷ s ∷ []) first h1) in
-    subst (λ x. SpellTo (flat_map item_words x) (r ∷ n ∷ e ∷ l ∷ s ∷ xs) []) (some_same (first.0 ∷ others) vs k2)
+    subst (λ x. SpellTo (flat_map item_words x) (r ∷ n ∷ e ∷ l ∷ s ∷ xs) []) (same_Some (first.0 ∷ others) vs k2)
     (spell_on (item_words first.0) (flat_map item_words others) (r ∷ n ∷ e ∷ l ∷ s ∷ xs) xs [] five (items_spelled xs others h2))
     ))
 
@@ -158,7 +159,7 @@ close_found (x ∷ xs) i k h = close_at x xs i k (is_close x) refl h (close_foun
         → (position_from is_close (i + 1) xs ≡ Some k → (n : ℕ) × (y : Lexeme) × (k ≡ i + 1 + n) × (xs ≡ take n xs ++ y ∷ drop (n + 1) xs) × (is_close y ≡ true))
         → (n : ℕ) × (y : Lexeme) × (k ≡ i + n) × (x ∷ xs ≡ take n (x ∷ xs) ++ y ∷ drop (n + 1) (x ∷ xs)) × (is_close y ≡ true)
     close_at x xs i k true e h next =
-        let same : i ≡ k = some_same i k h in
+        let same : i ≡ k = same_Some i k h in
         let zero_more : k ≡ i + 0 = omega (arith, same) in
         (0, x, zero_more, refl, e)
     close_at x xs i k false e h next =
@@ -187,7 +188,7 @@ up_to_close_spelled ws xs y h inside =
     let place = bind_some (position_from is_close 0 xs) _ y h in
     let found = close_found xs 0 place.0 place.1 in
     let same_place : place.0 ≡ found.0 = omega (arith, found.2) in
-    let parts = some_same (take place.0 xs, drop (place.0 + 1) xs) y place.2 in
+    let parts = same_Some (take place.0 xs, drop (place.0 + 1) xs) y place.2 in
     let before : take found.0 xs ≡ y.0 = ap (λ n. take n xs) (sym same_place) ∙ ap (λ p. p.0) parts in
     let behind : drop (found.0 + 1) xs ≡ y.1 = ap (λ n. drop (n + 1) xs) (sym same_place) ∙ ap (λ p. p.1) parts in
     let all : xs ≡ y.0 ++ found.1 ∷ y.1 = found.3 ∙ ap (λ z. z ++ found.1 ∷ drop (found.0 + 1) xs) before ∙ ap (λ z. y.0 ++ found.1 ∷ z) behind in
@@ -206,9 +207,9 @@ body_spelled xs y h =
     through (spec.items parts.0) _ values k3 (λ items h4 k4.
     through (spec.word (codes "steps") values.1) _ y k1 (λ steps h5 k5.
     through (spec.mark (codes "{") steps) _ y k5 (λ end h6 k6.
-    let read = some_same (items, parts.1) values k4 in
+    let read = same_Some (items, parts.1) values k4 in
     let steps_at : spec.word (codes "steps") parts.1 ≡ Some steps = ap (λ p. spec.word (codes "steps") p.1) read ∙ h5 in
-    let same = ap (λ p. (p.0, end)) read ∙ some_same (values.0, end) y k6 in
+    let same = ap (λ p. (p.0, end)) read ∙ same_Some (values.0, end) y k6 in
     let closed = up_to_close_spelled (flat_map item_words items) inside parts h3 (items_spelled parts.0 items h4) in
     let behind = word_on (codes "steps") _ parts.1 steps end steps_at (mark_on (codes "{") [] steps end end h6 (done end)) in
     subst (λ p. SpellTo (body_words p.0) xs p.1) same
@@ -225,7 +226,7 @@ head_spelled xs y h =
     through (spec.word (codes "spec") version) _ y k2 (λ own h3 k3.
     through (spec.one free_name_of own) _ y k3 (λ found h4 k4.
     through (spec.mark (codes "{") found.1) _ y k4 (λ end h5 k5.
-    subst (λ p. SpellTo (head_words p.0) xs p.1 × (is_free p.0 ≡ true)) (some_same (found.0, end) y k5) (
+    subst (λ p. SpellTo (head_words p.0) xs p.1 × (is_free p.0 ≡ true)) (same_Some (found.0, end) y k5) (
       word_on (codes "islaris_proof") _ xs begun end h1 (version_on _ begun version end h2 (word_on (codes "spec") _ version own end h3
           (free_on _ own end found h4 (mark_on (codes "{") [] found.1 end end h5 (done end))))),
       free_is own found h4,
@@ -239,7 +240,7 @@ code_spelled xs y h =
     through (spec.one address_of begun) _ y k1 (λ lo h2 k2.
     through (spec.one address_of lo.1) _ y k2 (λ hi h3 k3.
     through (spec.mark (codes ";") hi.1) _ y k3 (λ end h4 k4.
-    subst (λ p. SpellTo (code_words p.0.0 p.0.1) xs p.1) (some_same ((lo.0, hi.0), end) y k4)
+    subst (λ p. SpellTo (code_words p.0.0 p.0.1) xs p.1) (same_Some ((lo.0, hi.0), end) y k4)
     (word_on (codes "code") _ xs begun end h1 (address_on _ begun end lo h2 (address_on _ lo.1 end hi h3 (mark_on (codes ";") [] hi.1 end end h4 (done end)))))
     ))))
 
@@ -252,7 +253,7 @@ exit_spelled xs y h =
     through (spec.one full_address_of place) _ y k3 (λ at h4 k4.
     through (spec.body at.1) _ y k4 (λ values h5 k5.
     through (spec.mark (codes "}") values.1) _ y k5 (λ end h6 k6.
-    subst (λ p. SpellTo (exit_words p.0.name p.0.at p.0.values) xs p.1 × (is_free p.0.name ≡ true)) (some_same (record { name = own.0; at = at.0; values = values.0 }, end) y k6) (
+    subst (λ p. SpellTo (exit_words p.0.name p.0.at p.0.values) xs p.1 × (is_free p.0.name ≡ true)) (same_Some (record { name = own.0; at = at.0; values = values.0 }, end) y k6) (
       word_on (codes "exit") _ xs begun end h1 (free_on _ begun end own h2 (word_on (codes "at") _ own.1 place end h3 (full_address_on _ place end at h4
           (spell_on (body_words values.0) (mark (codes "}") ∷ []) at.1 values.1 end (body_spelled at.1 values h5) (mark_on (codes "}") [] values.1 end end h6 (done end)))))),
       free_is begun own h2,
@@ -267,7 +268,7 @@ block_spelled xs y h =
     through (spec.word (codes "at") own.1) _ y k2 (λ place h3 k3.
     through (spec.one address_of place) _ y k3 (λ at h4 k4.
     through (spec.body at.1) _ y k4 (λ values h5 k5.
-    subst (λ p. SpellTo (block_words p.0.name p.0.at p.0.values) xs p.1 × (is_free p.0.name ≡ true)) (some_same (record { name = own.0; at = at.0; values = values.0 }, values.1) y k5) (
+    subst (λ p. SpellTo (block_words p.0.name p.0.at p.0.values) xs p.1 × (is_free p.0.name ≡ true)) (same_Some (record { name = own.0; at = at.0; values = values.0 }, values.1) y k5) (
       word_on (codes "block") _ xs begun values.1 h1 (free_on _ begun values.1 own h2 (word_on (codes "at") _ own.1 place values.1 h3 (address_on _ place values.1 at h4
           (body_spelled at.1 values h5)))),
       free_is begun own h2,

@@ -3,7 +3,7 @@ use Rattle.std.proofs.Common.{◌≡◌, ℕ, zero, suc, ◌-◌, ◌<◌, List,
 use Rattle.std.specs.Prelude.{slice_set, slice_get, slice_index_or}
 use Rattle.std.proofs.lemmas.List.{length-map, length-take, get_or-map}
 use Rattle.std.proofs.lemmas.List.Elements.{All-head, All-tail, All-cons, All-nil, All-weaker}
-use Rattle.std.proofs.lemmas.Option.{get_or_from_slice_get}
+use Rattle.std.proofs.lemmas.Option.{get_or_from_slice_get, slice_get_within}
 use Rattle.bv_bits.specs.declared.Bits.{Bits}
 use Rattle.bv_bits.specs.Bits.{width_of}
 use Rattle.state_core.specs.State.{State, Memory, register_of, widths_of, zero_of}
@@ -29,16 +29,11 @@ all_fit s ws pc vs is h = subst (λ l. All (Fits l) vs) (sym is) (All-weaker (Is
 pub new_widths : (s : State) (ws ks : List ℕ) (m : Memory) → s ≡ record { registers = map zero_of ks; memory = m } → ks ≡ ws → widths_of s ≡ ws
 new_widths s ws ks m is same = ap widths_of is ∙ zero_widths ks ∙ same
 
-get_below : {X : Type 0} (xs : List X) (i : ℕ) (x : X) → slice_get xs i ≡ Some x → i < length xs
-get_below [] i x is = absurd (cc)
-get_below (y ∷ xs) zero x is = omega arith
-get_below (y ∷ xs) (suc i) x is = let h = get_below xs i x is in omega (arith, h)
-
 pub pc_there : (s : State) (ws : List ℕ) (r : ℕ) → widths_of s ≡ ws → slice_get ws r ≡ Some 64 → r < length s.registers
 pc_there s ws r is wide =
     let size = length-map s.registers width_of in
     let same : length (widths_of s) ≡ length ws = ap length is in
-    let below = get_below ws r 64 wide in omega (arith, size, same, below)
+    let below = slice_get_within ws r 64 wide in omega (arith, size, same, below)
 
 pub pc_width : (s : State) (ws : List ℕ) (r : ℕ) → widths_of s ≡ ws → slice_get ws r ≡ Some 64 → 64 ≡ (register_of s r).width
 pc_width s ws r is wide =

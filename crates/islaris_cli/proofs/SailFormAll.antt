@@ -3,6 +3,7 @@ use Rattle.std.proofs.Common.{◌≡◌, ◌≤◌, ◌<◌, ℕ, zero, suc, Lis
 use Rattle.std.specs.Option.{option_map}
 use Rattle.islaris_cli.specs.declared.sail_form.words.Word.{Word}
 use Rattle.islaris_cli.specs.SailFormReading.{Reading, with_first, many_from, many, all, turned, each, Reads}
+use Rattle.std.proofs.lemmas.Option.{same_Some}
 
 -- what is read takes a word at least
 pub record Shrinks {A : Type 0} (read : List Word → Reading A) : Type 0 where
@@ -52,20 +53,17 @@ all-ends read (w ∷ ws) e = ap (λ o. many_from o (w ∷ ws) (many read (length
 
 -- ---- where each value has another form
 
-some_same : {A : Type 0} (x y : A) → Some x ≡ Some y → x ≡ y
-some_same x y h = cc
-
 smaller_from : {A B : Type 0} (f : A → B) (read : List Word → Reading A) → Shrinks read → (ws rest : List Word) (y : B) (o : Reading A) → read ws ≡ o → turned f o ≡ Some (y, rest) → length rest < length ws
 smaller_from f read s ws rest y None e h = absurd (cc)
 smaller_from f read s ws rest y (Some p) e h =
-    let pair = some_same (f p.0, p.1) (y, rest) h in
+    let pair = same_Some (f p.0, p.1) (y, rest) h in
     let is : p.1 ≡ rest = ap (λ q. q.1) pair in rw (← is) (s.smaller ws p.1 p.0 e)
 
 goes_from : {A B : Type 0} (f : A → B) (read : List Word → Reading A) → Shrinks read → (ws rest : List Word) (y : B) (o : Reading A) → read ws ≡ o → turned f o ≡ Some (y, rest)
     → each f (all read ws) ≡ with_first y (each f (all read rest))
 goes_from f read s ws rest y None e h = absurd (cc)
 goes_from f read s ws rest y (Some p) e h =
-    let pair = some_same (f p.0, p.1) (y, rest) h in
+    let pair = same_Some (f p.0, p.1) (y, rest) h in
     ap (each f) (all-goes read s ws p.1 p.0 e) ∙ ap (λ q. with_first q.0 (each f (all read q.1))) pair
 
 ends_from : {A B : Type 0} (f : A → B) (read : List Word → Reading A) (ws : List Word) (o : Reading A) → read ws ≡ o → turned f o ≡ None → each f (all read ws) ≡ ([], ws)

@@ -12,8 +12,10 @@ use Rattle.islaris_cli.specs.SailFormSpelling.{placed, spell_row, spell_arm, spe
 use Rattle.islaris_cli.specs.SailFormSyntax.{Instr, Register, Sail}
 use Rattle.islaris_cli.specs.SailFormWords.{words}
 use Rattle.islaris_cli.proofs.SailFormApart.{apart, unplaced}
-use Rattle.islaris_cli.proofs.SailFormBehind.{some_same, Between, after-split, after-length}
-use Rattle.islaris_cli.proofs.SailFormComplete.{Anywhere, both_true, then_some, then_none, complete-row, complete-arm, no-arm, register-found}
+use Rattle.islaris_cli.proofs.SailFormBehind.{Between, after-split, after-length}
+use Rattle.islaris_cli.proofs.SailFormComplete.{Anywhere, then_some, then_none, complete-row, complete-arm, no-arm, register-found}
+use Rattle.std.proofs.lemmas.Option.{same_Some}
+use Rattle.std.proofs.lemmas.Bool.{and_parts}
 
 -- ---- the function
 
@@ -22,7 +24,7 @@ comma_found : (comma : Bool) (ws rest : List Word) → (found : Between (spell_c
 unfolding maybe after
 comma_found true ws rest found = ap (λ o. behind_or_all o ws) found.first
 comma_found false ws rest found =
-    let is = some_same ws found.mid found.first in
+    let is = same_Some ws found.mid found.first in
     let closed : after (mark (codes "}") ∷ []) ws ≡ Some rest = rw is found.second in
     ap (λ o. behind_or_all o ws) (apart (mark (codes "}")) (mark (codes ",")) [] [] ws rest closed refl) ∙ ap (λ l. (false, l)) is
 
@@ -30,7 +32,7 @@ no_further_arm : (names : List Text) (comma : Bool) (ws rest : List Word) → Be
 unfolding after
 no_further_arm names true ws rest found = then_some (arm names) (after (mark (codes ",") ∷ []) ws) found.mid None found.first (no-arm names (codes "}") found.mid rest found.second)
 no_further_arm names false ws rest found =
-    let is = some_same ws found.mid found.first in
+    let is = same_Some ws found.mid found.first in
     let closed : after (mark (codes "}") ∷ []) ws ≡ Some rest = rw is found.second in
     then_none (arm names) (after (mark (codes ",") ∷ []) ws) (apart (mark (codes "}")) (mark (codes ",")) [] [] ws rest closed refl)
 
@@ -87,7 +89,7 @@ registers_end (suc n) ws h = ap (λ o. many_from o ws (many register n)) h
 
 registers_found : (rs : List Register) (n : ℕ) (ws rest : List Word) → after (spell_registers rs) ws ≡ Some rest → register rest ≡ None → length rs ≤ n → many register n ws ≡ (rs, rest)
 unfolding many after
-registers_found [] n ws rest h none long = ap (many register n) (some_same ws rest h) ∙ registers_end n rest none
+registers_found [] n ws rest h none long = ap (many register n) (same_Some ws rest h) ∙ registers_end n rest none
 registers_found (r ∷ rs) zero ws rest h none long = absurd (omega arith)
 registers_found (r ∷ rs) (suc n) ws rest h none long =
     let one = after-split (spell_register r) (spell_registers rs) ws rest h in
@@ -100,7 +102,7 @@ registers_long (r ∷ rs) = let long = registers_long rs in omega (arith, long, 
 
 no_register : (i : Option Instr) (ws : List Word) → after (spell_ending i) ws ≡ Some [] → register ws ≡ None
 unfolding register after
-no_register None ws h = ap register (some_same ws [] h)
+no_register None ws h = ap register (same_Some ws [] h)
 no_register (Some f) ws h =
     then_none _ (after (name (codes "register") ∷ []) ws) (apart (record { means = meaning.Name (codes "function"); at = Some f.at }) (name (codes "register")) (others (spell_instr f)) [] ws [] h refl)
 
@@ -108,7 +110,7 @@ no_register (Some f) ws h =
 
 no_order : (rs : List Register) (i : Option Instr) (ws : List Word) → after (spell_registers rs ++ spell_ending i) ws ≡ Some [] → after order_words ws ≡ None
 unfolding after
-no_order [] None ws h = ap (after order_words) (some_same ws [] h)
+no_order [] None ws h = ap (after order_words) (same_Some ws [] h)
 no_order [] (Some f) ws h = apart (record { means = meaning.Name (codes "function"); at = Some f.at }) (name (codes "default")) (others (spell_instr f)) (others order_words) ws [] h refl
 no_order (r ∷ rs) i ws h = apart (record { means = meaning.Name (codes "register"); at = Some r.at }) (name (codes "default")) (others (spell_registers (r ∷ rs) ++ spell_ending i)) (others order_words) ws [] h refl
 
@@ -117,7 +119,7 @@ order_found : (b : Bool) (rs : List Register) (i : Option Instr) (ws mid : List 
 unfolding maybe after
 order_found true rs i ws mid h g = ap (λ o. behind_or_all o ws) h
 order_found false rs i ws mid h g =
-    let is = some_same ws mid h in
+    let is = same_Some ws mid h in
     let behind_it : after (spell_registers rs ++ spell_ending i) ws ≡ Some [] = rw is g in
     ap (λ o. behind_or_all o ws) (no_order rs i ws behind_it) ∙ ap (λ l. (false, l)) is
 
@@ -125,7 +127,7 @@ order_found false rs i ws mid h g =
 
 ending_found : (names : List Text) (i : Option Instr) (ws : List Word) → after (spell_ending i) ws ≡ Some [] → fine_ending names i ≡ true → ending names ws ≡ Some i
 unfolding after
-ending_found names None ws h fine = ap (ending names) (some_same ws [] h)
+ending_found names None ws h fine = ap (ending names) (same_Some ws [] h)
 ending_found [] (Some f) ws h fine = absurd (cc)
 ending_found (x ∷ names) (Some f) [] h fine = absurd (cc)
 ending_found (x ∷ names) (Some f) (w ∷ ws) h fine = ap (λ o. option_map Some (alone o)) (instr-found (x ∷ names) f (w ∷ ws) [] h fine)
@@ -136,7 +138,7 @@ made_of s ws names end = rw names (ap (option_map _) end)
 pub sail-found : (ws : List Word) (s : Sail) → after (spelling s) ws ≡ Some [] → is_fine s ≡ true → sail ws ≡ Some s
 unfolding sail
 sail-found ws s h fine =
-    let fines = both_true (are_names (register_names s.registers)) (fine_ending (register_names s.registers) s.instr) fine in
+    let fines = and_parts (are_names (register_names s.registers)) (fine_ending (register_names s.registers) s.instr) fine in
     let one = after-split (spell_order s.ordered) (spell_registers s.registers ++ spell_ending s.instr) ws [] h in
     let two = after-split (spell_registers s.registers) (spell_ending s.instr) one.mid [] one.second in
     let front = order_found s.ordered s.registers s.instr ws one.mid one.first one.second in

@@ -8,18 +8,15 @@ use Rattle.islaris_cli.specs.declared.sail_form.words.Meaning.TheVariants as mea
 use Rattle.islaris_cli.specs.declared.sail_form.words.Word.{Word}
 use Rattle.islaris_cli.specs.SailFormReading.{place}
 use Rattle.islaris_cli.specs.SailFormSpelled.{Spelled, fits, after, is_same, is_at}
-use Rattle.islaris_cli.proofs.SailFormBehind.{some_same}
-
-both : (a b : Bool) → (a && b) ≡ true → (a ≡ true) × (b ≡ true)
-both true b h = (refl, h)
-both false b h = absurd (cc)
+use Rattle.std.proofs.lemmas.Option.{same_Some}
+use Rattle.std.proofs.lemmas.Bool.{and_parts}
 
 text_same : (x y : Text) → bytes_eq y x ≡ true → x ≡ y
 text_same x y h = sym ((bytes_eq-Decides y x).0 h)
 
 literal_same : (b c : Literal) → (b.width == c.width && b.value == c.value) ≡ true → b ≡ c
 literal_same b c h =
-    let found = both (b.width == c.width) (b.value == c.value) h in
+    let found = and_parts (b.width == c.width) (b.value == c.value) h in
     let width : b.width ≡ c.width = eqb-true b.width c.width found.0 in
     let value : b.value ≡ c.value = eqb-true b.value c.value found.1 in
     ap (λ w. let l : Literal = record { width = w; value = b.value } in l) width ∙ ap (λ v. let l : Literal = record { width = c.width; value = v } in l) value
@@ -57,8 +54,8 @@ pub record One (s : Spelled) (ws rest : List Word) : Type 0 where
 
 one_from : (s : Spelled) (w : Word) (b : Bool) → fits s w ≡ b → (ws rest : List Word) → (if b then Some ws else None) ≡ Some rest → One s (w ∷ ws) rest
 one_from s w true e ws rest h =
-    let found = both (is_same s.means w.means) (is_at s.at w.at) e in
-    record { word = w; is = ap (λ l. w ∷ l) (some_same ws rest h); means = same-meaning s.means w.means found.0; place = found.1 }
+    let found = and_parts (is_same s.means w.means) (is_at s.at w.at) e in
+    record { word = w; is = ap (λ l. w ∷ l) (same_Some ws rest h); means = same-meaning s.means w.means found.0; place = found.1 }
 one_from s w false e ws rest h = absurd (cc)
 
 -- from what stands behind one word
@@ -68,7 +65,7 @@ one-of s [] rest h = absurd (cc)
 one-of s (w ∷ ws) rest h = one_from s w (fits s w) refl ws rest h
 
 fit_means : (s : Spelled) (w : Word) (b : Bool) (ss : List Spelled) (ws rest : List Word) → fits s w ≡ b → (if b then after ss ws else None) ≡ Some rest → s.means ≡ w.means
-fit_means s w true ss ws rest e h = same-meaning s.means w.means (both (is_same s.means w.means) (is_at s.at w.at) e).0
+fit_means s w true ss ws rest e h = same-meaning s.means w.means (and_parts (is_same s.means w.means) (is_at s.at w.at) e).0
 fit_means s w false ss ws rest e h = absurd (cc)
 
 not_fits : (t : Spelled) (w : Word) (ts : List Spelled) (ws : List Word) → is_same t.means w.means ≡ false → (if fits t w then after ts ws else None) ≡ None
@@ -100,13 +97,13 @@ unplaced m k ss (w ∷ ws) rest h = at_from m k w (is_same m w.means) (k == w.at
 means_from : (s : Spelled) (w : Word) (b : Bool) (ss : List Spelled) (ws : List Word) → fits s w ≡ b → (after ss ws ≡ Some [] → map (λ w. w.means) ws ≡ map (λ s. s.means) ss)
     → (if b then after ss ws else None) ≡ Some [] → map (λ w. w.means) (w ∷ ws) ≡ map (λ s. s.means) (s ∷ ss)
 means_from s w true ss ws e go h =
-    let first = same-meaning s.means w.means (both (is_same s.means w.means) (is_at s.at w.at) e).0 in
+    let first = same-meaning s.means w.means (and_parts (is_same s.means w.means) (is_at s.at w.at) e).0 in
     ap (λ m. m ∷ map (λ w. w.means) ws) (sym first) ∙ ap (λ l. s.means ∷ l) (go h)
 means_from s w false ss ws e go h = absurd (cc)
 
 -- words behind which nothing stands are the spelled ones
 pub after-means : (ss : List Spelled) (ws : List Word) → after ss ws ≡ Some [] → map (λ w. w.means) ws ≡ map (λ s. s.means) ss
 unfolding after
-after-means [] ws h = ap (map (λ w. w.means)) (some_same ws [] h)
+after-means [] ws h = ap (map (λ w. w.means)) (same_Some ws [] h)
 after-means (s ∷ ss) [] h = absurd (cc)
 after-means (s ∷ ss) (w ∷ ws) h = means_from s w (fits s w) ss ws refl (after-means ss ws) h

@@ -6,9 +6,8 @@ use Rattle.islaris_cli.specs.declared.sail_form.words.Word.{Word}
 use Rattle.islaris_cli.specs.SailFormReading.{place}
 use Rattle.islaris_cli.specs.SailFormSpelled.{Spelled, fits, after, is_same, is_at}
 use Rattle.islaris_cli.specs.SailFormSpelling.{placed}
-
-pub some_same : {A : Type 0} (x y : A) → Some x ≡ Some y → x ≡ y
-some_same x y h = cc
+use Rattle.std.proofs.lemmas.Option.{same_Some}
+use Rattle.islaris_cli.proofs.SmallLemmas.{bytes_itself, number_itself}
 
 -- ---- one list of words, and then another
 
@@ -20,7 +19,7 @@ both_from false xs ys ws mid go h = absurd (cc)
 -- what stands behind both is what stands behind the second, behind the first
 pub after-both : (xs ys : List Spelled) (ws mid : List Word) → after xs ws ≡ Some mid → after (xs ++ ys) ws ≡ after ys mid
 unfolding after
-after-both [] ys ws mid h = ap (after ys) (some_same ws mid h)
+after-both [] ys ws mid h = ap (after ys) (same_Some ws mid h)
 after-both (s ∷ xs) ys [] mid h = absurd (cc)
 after-both (s ∷ xs) ys (w ∷ ws) mid h = both_from (fits s w) xs ys ws mid (after-both xs ys ws mid) h
 
@@ -51,18 +50,15 @@ length_from false xs ws rest go h = absurd (cc)
 -- as many words are taken as are spelled
 pub after-length : (xs : List Spelled) (ws rest : List Word) → after xs ws ≡ Some rest → length ws ≡ length xs + length rest
 unfolding after
-after-length [] ws rest h = let e = ap length (some_same ws rest h) in omega (arith, e)
+after-length [] ws rest h = let e = ap length (same_Some ws rest h) in omega (arith, e)
 after-length (s ∷ xs) [] rest h = absurd (cc)
 after-length (s ∷ xs) (w ∷ ws) rest h = length_from (fits s w) xs ws rest (after-length xs ws rest) h
 
 -- ---- places
 
-pub here : (k : ℕ) → (k == k) ≡ true
-here k = eq-eqb k k refl
-
 placed_from : (b c : Bool) (xs : List Spelled) (w : Word) (ws rest : List Word) → (if b && c then after xs ws else None) ≡ Some rest
     → (if b && (w.at == w.at) then after xs ws else None) ≡ Some rest
-placed_from true true xs w ws rest h = rw (here w.at) h
+placed_from true true xs w ws rest h = rw (number_itself w.at) h
 placed_from true false xs w ws rest h = absurd (cc)
 placed_from false c xs w ws rest h = absurd (cc)
 
@@ -74,10 +70,6 @@ after-placed (s ∷ xs) [] rest h = absurd (cc)
 after-placed (s ∷ xs) (w ∷ ws) rest h = placed_from (is_same s.means w.means) (is_at s.at w.at) xs w ws rest h
 
 -- ---- words that are the spelled ones
-
--- a name is itself
-pub name_itself : (x : Text) → bytes_eq x x ≡ true
-name_itself x = (bytes_eq-Decides x x).1 refl
 
 -- a word that is the spelled one
 pub after-one : (s : Spelled) (w : Word) (ws : List Word) → fits s w ≡ true → after (s ∷ []) (w ∷ ws) ≡ Some ws

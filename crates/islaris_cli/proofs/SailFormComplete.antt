@@ -12,11 +12,10 @@ use Rattle.islaris_cli.specs.SailFormSpelled.{Spelled, name, mark, after, is_sam
 use Rattle.islaris_cli.specs.SailFormSpelling.{hex, spell_operand, spell_more, spell_row, spell_assignment, spell_steps, spell_arm, spell_register, fine_operand, fine_row, fine_assignment, fine_arm}
 use Rattle.islaris_cli.specs.SailFormSyntax.{Operand, named, literal, Assignment, Register}
 use Rattle.islaris_cli.proofs.SailFormApart.{one-of, apart, unplaced}
-use Rattle.islaris_cli.proofs.SailFormBehind.{some_same, after-split, after-length, here}
-
-pub both_true : (a b : Bool) → (a && b) ≡ true → (a ≡ true) × (b ≡ true)
-both_true true b h = (refl, h)
-both_true false b h = absurd (cc)
+use Rattle.islaris_cli.proofs.SailFormBehind.{after-split, after-length}
+use Rattle.std.proofs.lemmas.Option.{same_Some}
+use Rattle.std.proofs.lemmas.Bool.{and_parts}
+use Rattle.islaris_cli.proofs.SmallLemmas.{number_itself}
 
 -- what is spelled is read, where it is fine and stops at what stands behind it
 pub record Complete {A : Type 0} (read : List Word → Reading A) (spell : A → List Spelled) (fine : A → Bool) (Stops : List Word → Type 0) : Type 0 where
@@ -46,7 +45,7 @@ pub record Parts (m : Text) (Stops : List Word → Type 0) : Type 0 where
 next_stops : {A : Type 0} (m : Text) (spell : A → List Spelled) (Stops : List Word → Type 0) → Parts m Stops → (xs : List A) (ws rest : List Word) → after (spell_more m spell xs) ws ≡ Some rest
     → Stops rest → Stops ws
 unfolding after
-next_stops m spell Stops p [] ws rest h s = subst Stops (sym (some_same ws rest h)) s
+next_stops m spell Stops p [] ws rest h s = subst Stops (sym (same_Some ws rest h)) s
 next_stops m spell Stops p (x ∷ xs) ws rest h s = let found = after-split (mark m ∷ []) (spell x ++ spell_more m spell xs) ws rest h in p.at_mark ws found.mid found.first
 
 many_complete : {A : Type 0} (m : Text) (read : List Word → Reading A) (spell : A → List Spelled) (fine : A → Bool) (Stops : List Word → Type 0) → Complete read spell fine Stops → Parts m Stops
@@ -54,15 +53,15 @@ many_complete : {A : Type 0} (m : Text) (read : List Word → Reading A) (spell 
     → many (behind m read) n ws ≡ (xs, rest)
 unfolding many after
 many_complete m read spell fine Stops c p [] n ws rest h f s none long =
-    let is = some_same ws rest h in
+    let is = same_Some ws rest h in
     ap (many (behind m read) n) is ∙ many_ends (behind m read) n rest none
 many_complete m read spell fine Stops c p (x ∷ xs) zero ws rest h f s none long = absurd (omega arith)
 many_complete m read spell fine Stops c p (x ∷ xs) (suc n) ws rest h f s none long =
     let one = after-split (mark m ∷ []) (spell x ++ spell_more m spell xs) ws rest h in
     let two = after-split (spell x) (spell_more m spell xs) one.mid rest one.second in
-    let fines = both_true (fine x) (list_all fine xs) f in
-    let here : read one.mid ≡ Some (x, two.mid) = c.found one.mid two.mid x two.first fines.0 (next_stops m spell Stops p xs two.mid rest two.second s) in
-    let next : behind m read ws ≡ Some (x, two.mid) = then_some read (after (mark m ∷ []) ws) one.mid (Some (x, two.mid)) one.first here in
+    let fines = and_parts (fine x) (list_all fine xs) f in
+    let number_itself : read one.mid ≡ Some (x, two.mid) = c.found one.mid two.mid x two.first fines.0 (next_stops m spell Stops p xs two.mid rest two.second s) in
+    let next : behind m read ws ≡ Some (x, two.mid) = then_some read (after (mark m ∷ []) ws) one.mid (Some (x, two.mid)) one.first number_itself in
     ap (λ o. many_from o ws (many (behind m read) n)) next
     ∙ ap (with_first x) (many_complete m read spell fine Stops c p xs n two.mid rest two.second fines.1 s none (omega arith))
 
@@ -81,7 +80,7 @@ unfolding row
 complete-row m read spell fine Stops c p = record {
   found = λ ws rest r h f s.
       let one = after-split (spell r.first) (spell_more m spell r.more) ws rest h in
-      let fines = both_true (fine r.first) (list_all fine r.more) f in
+      let fines = and_parts (fine r.first) (list_all fine r.more) f in
       let first = c.found ws one.mid r.first one.first fines.0 (next_stops m spell Stops p r.more one.mid rest one.second s.part) in
       let room = after-length (spell_more m spell r.more) one.mid rest one.second in
       let more = many_complete m read spell fine Stops c p r.more (length one.mid) one.mid rest one.second fines.1 s.part s.none (omega (arith, room, more_length m spell r.more)) in
@@ -99,7 +98,7 @@ name-found ws rest x h =
     word_first (λ w. name_of w.means) ws rest one.word x one.is (ap name_of (sym one.means))
 
 same_width : (width value : ℕ) → (if width == width then Some value else None) ≡ Some value
-same_width width value = rw (here width) refl
+same_width width value = rw (number_itself width) refl
 
 pub hex-found : (width : ℕ) (ws rest : List Word) (v : ℕ) → after (hex width v ∷ []) ws ≡ Some rest → a_hex width ws ≡ Some (v, rest)
 hex-found width ws rest v h =
@@ -148,7 +147,7 @@ complete-assignment names = record {
       let one = after-split (first ∷ []) (mark (codes "=") ∷ parts) ws rest h in
       let two = after-split (mark (codes "=") ∷ []) parts one.mid rest one.second in
       let begins = unplaced (meaning.Name a.to) a.at [] ws one.mid one.first in
-      let fines = both_true (is_among names a.to) (fine_row (fine_operand names) a.sum) f in
+      let fines = and_parts (is_among names a.to) (fine_row (fine_operand names) a.sum) f in
       let sum = (complete-row (codes "+") (operand names) spell_operand (fine_operand names) Anywhere (complete-operand names) (record { at_mark = λ ws rest h. tt })).found
       two.mid rest a.sum two.second fines.1 (record { part = tt; none = s.none }) in
       then_some _ (a_name ws) (a.to, one.mid) (Some (a, rest)) (name-found ws one.mid a.to begins.1)
@@ -173,7 +172,7 @@ steps_found : (names : List Text) (ss : List Assignment) (ws mid rest : List Wor
     → list_all (fine_assignment names) ss ≡ true → steps names ws ≡ (ss, mid)
 unfolding steps after row
 steps_found names [] ws mid rest h e f =
-    let is = some_same ws mid h in
+    let is = same_Some ws mid h in
     let none : row (codes ";") (assignment names) mid ≡ None = then_none _ (assignment names mid) (no_assignment names (codes "}") mid rest e) in
     ap (λ l. row_or_none (row (codes ";") (assignment names) l) l) is ∙ ap (λ o. row_or_none o mid) none
 steps_found names (s ∷ ss) ws mid rest h e f =

@@ -13,7 +13,7 @@ use Rattle.islaris_cli.specs.SailFormReading.{Reading, first_word, a_name, a_hex
 use Rattle.islaris_cli.specs.SailFormSpelled.{name, mark, after}
 use Rattle.islaris_cli.specs.SailFormSpelling.{fine_operand, fine_row, fine_assignment, fine_arm}
 use Rattle.islaris_cli.specs.SailFormSyntax.{Row, Operand, named, literal, Assignment, Arm, Instr}
-use Rattle.islaris_cli.proofs.SailFormBehind.{some_same}
+use Rattle.std.proofs.lemmas.Option.{same_Some}
 
 -- what is read is fine
 pub record Good {A : Type 0} (read : List Word → Reading A) (fine : A → Bool) : Type 0 where
@@ -41,16 +41,16 @@ good-row m read fine g = record {
       (λ first e h1.
       let more = all (behind m read) first.1 in
       let P : Row _ × List Word → Type 0 = λ q. fine_row fine q.0 ≡ true in
-      subst P (some_same (row_from first.0 more) (r, rest) h1)
+      subst P (same_Some (row_from first.0 more) (r, rest) h1)
       (rw (g.is_fine ws first.1 first.0 e) (many_good (behind m read) fine (good-behind m read fine g) (length first.1) first.1)));
 }
 
 among_fine : (b : Bool) (names : List Text) (x : Text) (at : ℕ) (o : Operand) → is_among names x ≡ b → (if b then Some (named x at) else None) ≡ Some o → fine_operand names o ≡ true
-among_fine true names x at o e h = let P : Operand → Type 0 = λ o. fine_operand names o ≡ true in subst P (some_same (named x at) o h) e
+among_fine true names x at o e h = let P : Operand → Type 0 = λ o. fine_operand names o ≡ true in subst P (same_Some (named x at) o h) e
 among_fine false names x at o e h = absurd (cc)
 
 literal_fine : (c : Bool) (names : List Text) (b : Literal) (at : ℕ) (o : Operand) → (if c then Some (literal b.value at) else None) ≡ Some o → fine_operand names o ≡ true
-literal_fine true names b at o h = let P : Operand → Type 0 = λ o. fine_operand names o ≡ true in subst P (some_same (literal b.value at) o h) refl
+literal_fine true names b at o h = let P : Operand → Type 0 = λ o. fine_operand names o ≡ true in subst P (same_Some (literal b.value at) o h) refl
 literal_fine false names b at o h = absurd (cc)
 
 operand_fine : (names : List Text) (m : Meaning) (at : ℕ) (o : Operand) → operand_of names m at ≡ Some o → fine_operand names o ≡ true
@@ -64,14 +64,14 @@ first_fine : {A : Type 0} (f : Word → Option A) (fine : A → Bool) → ((w : 
     → (ws rest : List Word) (x : A) → first_word f ws ≡ Some (x, rest) → fine x ≡ true
 first_fine f fine go [] rest x h = absurd (cc)
 first_fine f fine go (w ∷ ws) rest x h = option_and_then_some _ (f w) (x, rest) h
-    (λ y e h1. let P : _ × List Word → Type 0 = λ q. fine q.0 ≡ true in subst P (some_same (y, ws) (x, rest) h1) (go w y e))
+    (λ y e h1. let P : _ × List Word → Type 0 = λ q. fine q.0 ≡ true in subst P (same_Some (y, ws) (x, rest) h1) (go w y e))
 
 good-operand : (names : List Text) → Good (operand names) (fine_operand names)
 unfolding operand
 good-operand names = record { is_fine = first_fine (λ w. operand_of names w.means w.at) (fine_operand names) (λ w x e. operand_fine names w.means w.at x e) }
 
 declared_fine : (b : Bool) (names : List Text) (x y : Text) → is_among names x ≡ b → (if b then Some x else None) ≡ Some y → is_among names y ≡ true
-declared_fine true names x y e h = let P : Text → Type 0 = λ y. is_among names y ≡ true in subst P (some_same x y h) e
+declared_fine true names x y e h = let P : Text → Type 0 = λ y. is_among names y ≡ true in subst P (same_Some x y h) e
 declared_fine false names x y e h = absurd (cc)
 
 good-assignment : (names : List Text) → Good (assignment names) (fine_assignment names)
@@ -83,7 +83,7 @@ good-assignment names = record {
       (λ mid e3 h3. option_and_then_some _ (row (codes "+") (operand names) mid) (a, rest) h3
       (λ sum e4 h4.
       let P : Assignment × List Word → Type 0 = λ q. fine_assignment names q.0 ≡ true in
-      subst P (some_same (record { to = x; at = place ws; sum = sum.0 }, sum.1) (a, rest) h4)
+      subst P (same_Some (record { to = x; at = place ws; sum = sum.0 }, sum.1) (a, rest) h4)
       (rw (declared_fine (is_among names to.0) names to.0 x refl e2)
       ((good-row (codes "+") (operand names) (fine_operand names) (good-operand names)).is_fine mid sum.1 sum.0 e4))))));
 }
@@ -105,7 +105,7 @@ good-arm names = record {
       (λ inside e3 h3. option_and_then_some _ (after (mark (codes "}") ∷ []) (steps names inside).1) (a, rest) h3
       (λ end e4 h4.
       let P : Arm × List Word → Type 0 = λ q. fine_arm names q.0 ≡ true in
-      subst P (some_same (record { opcode = opcode.0; at = place block; steps = (steps names inside).0 }, end) (a, rest) h4) (steps_good names inside)))));
+      subst P (same_Some (record { opcode = opcode.0; at = place block; steps = (steps names inside).0 }, end) (a, rest) h4) (steps_good names inside)))));
 }
 
 pub good-instr : (names : List Text) → Good (instr names) (λ f. fine_row (fine_arm names) f.arms)
@@ -118,6 +118,6 @@ good-instr names = record {
       (λ arms e4 h4. option_and_then_some _ (after (mark (codes "}") ∷ []) (maybe (mark (codes ",") ∷ []) arms.1).1) (f, rest) h4
       (λ end e5 h5.
       let P : Instr × List Word → Type 0 = λ q. fine_row (fine_arm names) q.0.arms ≡ true in
-      subst P (some_same (record { at = place ws; match_at = place body; on_at = place on; arms = arms.0; comma = (maybe (mark (codes ",") ∷ []) arms.1).0 }, end) (f, rest) h5)
+      subst P (same_Some (record { at = place ws; match_at = place body; on_at = place on; arms = arms.0; comma = (maybe (mark (codes ",") ∷ []) arms.1).0 }, end) (f, rest) h5)
       ((good-row (codes ",") (arm names) (fine_arm names) (good-arm names)).is_fine inside arms.1 arms.0 e4))))));
 }

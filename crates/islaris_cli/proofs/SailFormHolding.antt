@@ -19,8 +19,11 @@ use Rattle.islaris_cli.specs.SailFormHolds.{IsWide, RegistersFit, FunctionFits, 
 use Rattle.islaris_cli.specs.SailFormNames.{names_of, are_names, is_pc_first, are_free}
 use Rattle.islaris_cli.specs.SailFormReading.{Reading, maybe, behind_or_all, many_from, many, all}
 use Rattle.islaris_cli.specs.SailFormSyntax.{Operand, named, literal, Assignment, Arm, Register, Instr, Sail, operand_tree, total, step, arm_case, register_definition, order_definitions, instr_definitions, program}
-use Rattle.islaris_cli.proofs.SailFormBehind.{some_same, after-length}
+use Rattle.islaris_cli.proofs.SailFormBehind.{after-length}
 use Rattle.islaris_cli.specs.SailFormSpelled.{Spelled, after}
+use Rattle.std.proofs.lemmas.Option.{same_Some}
+use Rattle.std.proofs.lemmas.Bool.{and_parts}
+use Rattle.islaris_cli.proofs.SmallLemmas.{mapped}
 
 -- ---- what reading keeps
 
@@ -30,13 +33,9 @@ pub record Fits (s : Sail) : Type 0 where
   pub some_register : (f : Instr) → s.instr ≡ Some f → register_names s.registers ≡ [] → ⊥
 
 ended : (names : List Text) (rest : List Word) (i : Option Instr) → ending names rest ≡ Some i → (f : Instr) → i ≡ Some f → names ≡ [] → ⊥
-ended names [] i h f e n = let is = some_same None i h in absurd (cc)
+ended names [] i h f e n = let is = same_Some None i h in absurd (cc)
 ended [] (w ∷ ws) i h f e n = absurd (cc)
 ended (x ∷ names) (w ∷ ws) i h f e n = absurd (cc)
-
-mapped : {A B : Type 0} (f : A → B) (o : Option A) (y : B) → option_map f o ≡ Some y → (x : A) × (o ≡ Some x) × (f x ≡ y)
-mapped f None y h = absurd (cc)
-mapped f (Some x) y h = (x, refl, some_same (f x) y h)
 
 fits_from : (b : Bool) (ordered : Bool) (rs : List Register) (rest : List Word) → are_names (register_names rs) ≡ b → (s : Sail)
     → (if b then option_map (λ f. record { ordered = ordered; registers = rs; instr = f }) (ending (register_names rs) rest) else None) ≡ Some s → Fits s
@@ -85,14 +84,10 @@ names_are : (rs : List Register) → names_of (map declared rs) ≡ register_nam
 names_are [] = refl
 names_are (r ∷ rs) = ap (λ l. r.name ∷ l) (names_are rs)
 
-both_true : (a b : Bool) → (a && b) ≡ true → (a ≡ true) × (b ≡ true)
-both_true true b h = (refl, h)
-both_true false b h = absurd (cc)
-
 pub registers-fit : (s : Sail) → Fits s → RegistersFit (program s)
 registers-fit s h =
     let are : names_of (registers_of (program s)) ≡ register_names s.registers = ap names_of (registers_are s) ∙ names_are s.registers in
-    let both = both_true (is_pc_first (register_names s.registers)) (are_free (register_names s.registers)) h.names in
+    let both = and_parts (is_pc_first (register_names s.registers)) (are_free (register_names s.registers)) h.names in
     record { wide = rw (registers_are s) (wide_all s.registers); first = rw are both.0; names = rw are both.1 }
 
 widths_all : (rs : List Register) → All IsWidth (map (λ r. r.width) (map declared rs))
@@ -124,7 +119,7 @@ first_one n k = grind (arith, nat_tests)
 
 pc_first : (rs : List Register) → are_names (register_names rs) ≡ true → (register_names rs ≡ [] → ⊥) → position is_pc (map declared rs) ≡ Some 0
 pc_first [] h some = absurd (some refl)
-pc_first (r ∷ rs) h some = rw ((both_true (is_pc_first (register_names (r ∷ rs))) (are_free (register_names (r ∷ rs))) h).0) (first_one (length (map declared rs)) 0)
+pc_first (r ∷ rs) h some = rw ((and_parts (is_pc_first (register_names (r ∷ rs))) (are_free (register_names (r ∷ rs))) h).0) (first_one (length (map declared rs)) 0)
 
 fits_instr : (s : Sail) → Fits s → (i : Option Instr) → s.instr ≡ i → functions_of (program s) ≡ functions_of (instr_definitions i) → FunctionFits (program s)
 unfolding found_by

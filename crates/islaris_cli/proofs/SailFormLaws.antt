@@ -11,9 +11,12 @@ use Rattle.islaris_cli.specs.SailFormSpelling.{spell_order, spell_registers, spe
 use Rattle.islaris_cli.specs.SailFormSyntax.{Register, Instr, Sail}
 use Rattle.islaris_cli.specs.SailFormWords.{words, has_slash}
 use Rattle.islaris_cli.proofs.SailFormApart.{after-means}
-use Rattle.islaris_cli.proofs.SailFormBehind.{some_same, after-both}
+use Rattle.islaris_cli.proofs.SailFormBehind.{after-both}
 use Rattle.islaris_cli.proofs.SailFormFine.{good-instr}
 use Rattle.islaris_cli.proofs.SailFormSound.{sound-instr, sound-register}
+use Rattle.std.proofs.lemmas.Option.{same_Some}
+use Rattle.std.proofs.lemmas.Bool.{and_from}
+use Rattle.islaris_cli.proofs.SmallLemmas.{mapped}
 
 -- ---- what is read is spelled
 
@@ -39,18 +42,14 @@ registers_sound (suc n) = λ ws. registers_from n (registers_sound n) ws (regist
 
 alone_is : {A : Type 0} (o : Reading A) (x : A) → alone o ≡ Some x → o ≡ Some (x, [])
 alone_is None x h = absurd (cc)
-alone_is (Some (y, [])) x h = ap (λ z. Some (z, [])) (some_same y x h)
+alone_is (Some (y, [])) x h = ap (λ z. Some (z, [])) (same_Some y x h)
 alone_is (Some (y, w ∷ ws)) x h = absurd (cc)
-
-mapped : {A B : Type 0} (f : A → B) (o : Option A) (y : B) → option_map f o ≡ Some y → (x : A) × (o ≡ Some x) × (f x ≡ y)
-mapped f None y h = absurd (cc)
-mapped f (Some x) y h = (x, refl, some_same (f x) y h)
 
 ending_sound : (names : List Text) (rest : List Word) (i : Option Instr) → ending names rest ≡ Some i → (after (spell_ending i) rest ≡ Some []) × (fine_ending names i ≡ true)
 unfolding after
 ending_sound names [] i h =
     let P : Option Instr → Type 0 = λ i. (after (spell_ending i) [] ≡ Some []) × (fine_ending names i ≡ true) in
-    subst P (some_same None i h) (refl, refl)
+    subst P (same_Some None i h) (refl, refl)
 ending_sound [] (w ∷ ws) i h = absurd (cc)
 ending_sound (x ∷ names) (w ∷ ws) i h =
     let found = mapped Some (alone (instr (x ∷ names) (w ∷ ws))) i h in
@@ -98,14 +97,11 @@ sail-spelled ws s h =
     after-both (spell_order s.ordered) (spell_registers s.registers ++ spell_ending s.instr) ws front.1 begins
     ∙ after-both (spell_registers s.registers) (spell_ending s.instr) front.1 registers.1 middle ∙ end
 
-and_true : (a b : Bool) → a ≡ true → b ≡ true → (a && b) ≡ true
-and_true a b h k = rw (h, k) refl
-
 pub sail-fine : (ws : List Word) (s : Sail) → sail ws ≡ Some s → is_fine s ≡ true
 sail-fine ws s h =
     let p = parts_of ws s h in
     let fine = (ending_sound (register_names s.registers) (all register (maybe order_words ws).1).1 s.instr p.ended).1 in
-    and_true (are_names (register_names s.registers)) (fine_ending (register_names s.registers) s.instr) p.names fine
+    and_from (are_names (register_names s.registers)) (fine_ending (register_names s.registers) s.instr) p.names fine
 
 -- ---- of texts
 

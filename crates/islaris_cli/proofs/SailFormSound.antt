@@ -12,14 +12,13 @@ use Rattle.islaris_cli.specs.SailFormReading.{Reading, first_word, name_of, hex_
 use Rattle.islaris_cli.specs.SailFormSpelled.{Spelled, name, mark, after}
 use Rattle.islaris_cli.specs.SailFormSpelling.{hex, placed, spell_operand, spell_more, spell_row, spell_assignment, spell_steps, spell_arm, spell_comma, spell_instr, spell_register}
 use Rattle.islaris_cli.specs.SailFormSyntax.{Row, Operand, named, literal, Assignment, Arm, Instr, Register}
-use Rattle.islaris_cli.proofs.SailFormBehind.{some_same, after-both, after-placed, after-one, name_itself}
+use Rattle.islaris_cli.proofs.SailFormBehind.{after-both, after-placed, after-one}
+use Rattle.std.proofs.lemmas.Option.{same_Some}
+use Rattle.islaris_cli.proofs.SmallLemmas.{bytes_itself, number_itself}
 
 -- what is read is spelled so
 pub record Sound {A : Type 0} (read : List Word → Reading A) (spell : A → List Spelled) : Type 0 where
   pub spelled : (ws rest : List Word) (x : A) → read ws ≡ Some (x, rest) → after (spell x) ws ≡ Some rest
-
-here : (k : ℕ) → (k == k) ≡ true
-here k = eq-eqb k k refl
 
 -- ---- rows
 
@@ -51,7 +50,7 @@ sound-row m read spell s = record {
       (λ first e g.
       let more = all (behind m read) first.1 in
       let P : Row _ × List Word → Type 0 = λ q. after (spell_row m spell q.0) ws ≡ Some q.1 in
-      subst P (some_same (row_from first.0 more) (r, rest) g)
+      subst P (same_Some (row_from first.0 more) (r, rest) g)
       (after-both (spell first.0) (spell_more m spell more.0) ws first.1 (s.spelled ws first.1 first.0 e) ∙ many_sound m read spell s (length first.1) first.1));
 }
 
@@ -61,7 +60,7 @@ name_among : (b : Bool) (x : Text) (at : ℕ) (ws : List Word) (o : Operand) →
     → after (spell_operand o) (record { means = meaning.Name x; at = at } ∷ ws) ≡ Some ws
 name_among true x at ws o h =
     let P : Operand → Type 0 = λ o. after (spell_operand o) (record { means = meaning.Name x; at = at } ∷ ws) ≡ Some ws in
-    subst P (some_same (named x at) o h) (after-one _ _ ws (rw (name_itself x) (here at)))
+    subst P (same_Some (named x at) o h) (after-one _ _ ws (rw (bytes_itself x) (number_itself at)))
 name_among false x at ws o h = absurd (cc)
 
 literal_of : (c : Bool) (b : Literal) (at : ℕ) (ws : List Word) (o : Operand) → (b.width == 64) ≡ c → (if c then Some (literal b.value at) else None) ≡ Some o
@@ -69,7 +68,7 @@ literal_of : (c : Bool) (b : Literal) (at : ℕ) (ws : List Word) (o : Operand) 
 literal_of true b at ws o e h =
     let P : Operand → Type 0 = λ o. after (spell_operand o) (record { means = meaning.Hex b; at = at } ∷ ws) ≡ Some ws in
     let width : 64 ≡ b.width = sym (eqb-true b.width 64 e) in
-    subst P (some_same (literal b.value at) o h) (after-one _ _ ws (rw (← width) (rw (here b.value) (here at))))
+    subst P (same_Some (literal b.value at) o h) (after-one _ _ ws (rw (← width) (rw (number_itself b.value) (number_itself at))))
 literal_of false b at ws o e h = absurd (cc)
 
 operand_word : (names : List Text) (m : Meaning) (at : ℕ) (ws : List Word) (o : Operand) → operand_of names m at ≡ Some o
@@ -87,7 +86,7 @@ sound-first f spell go [] rest x h = absurd (cc)
 sound-first f spell go (w ∷ ws) rest x h = option_and_then_some _ (f w) (x, rest) h
     (λ y e g.
     let P : _ × List Word → Type 0 = λ q. after (spell q.0) (w ∷ ws) ≡ Some q.1 in
-    subst P (some_same (y, ws) (x, rest) g) (go w ws y e))
+    subst P (same_Some (y, ws) (x, rest) g) (go w ws y e))
 
 pub sound-operand : (names : List Text) → Sound (operand names) spell_operand
 unfolding operand
@@ -96,7 +95,7 @@ sound-operand names = record { spelled = sound-first (λ w. operand_of names w.m
 name_word : (m : Meaning) (at : ℕ) (ws : List Word) (x : Text) → name_of m ≡ Some x → after (name x ∷ []) (record { means = m; at = at } ∷ ws) ≡ Some ws
 name_word (meaning.Name y) at ws x h =
     let P : Text → Type 0 = λ x. after (name x ∷ []) (record { means = meaning.Name y; at = at } ∷ ws) ≡ Some ws in
-    subst P (some_same y x h) (after-one _ _ ws (rw (name_itself y) refl))
+    subst P (same_Some y x h) (after-one _ _ ws (rw (bytes_itself y) refl))
 name_word (meaning.Mark y) at ws x h = absurd (cc)
 name_word (meaning.Number n) at ws x h = absurd (cc)
 name_word (meaning.Hex b) at ws x h = absurd (cc)
@@ -110,7 +109,7 @@ hex_width : (c : Bool) (width : ℕ) (b : Literal) (at : ℕ) (ws : List Word) (
 hex_width true width b at ws v e h =
     let P : ℕ → Type 0 = λ v. after (hex width v ∷ []) (record { means = meaning.Hex b; at = at } ∷ ws) ≡ Some ws in
     let same : width ≡ b.width = sym (eqb-true b.width width e) in
-    subst P (some_same b.value v h) (after-one _ _ ws (rw same (rw (here b.width) (rw (here b.value) refl))))
+    subst P (same_Some b.value v h) (after-one _ _ ws (rw same (rw (number_itself b.width) (rw (number_itself b.value) refl))))
 hex_width false width b at ws v e h = absurd (cc)
 
 hex_word : (width : ℕ) (m : Meaning) (at : ℕ) (ws : List Word) (v : ℕ) → hex_of width m ≡ Some v → after (hex width v ∷ []) (record { means = m; at = at } ∷ ws) ≡ Some ws
@@ -124,7 +123,7 @@ pub sound-hex : (width : ℕ) → Sound (a_hex width) (λ v. hex width v ∷ [])
 sound-hex width = record { spelled = sound-first (λ w. hex_of width w.means) (λ v. hex width v ∷ []) (λ w ws v e. hex_word width w.means w.at ws v e) }
 
 declared_is : (b : Bool) (x y : Text) → (if b then Some x else None) ≡ Some y → x ≡ y
-declared_is true x y h = some_same x y h
+declared_is true x y h = same_Some x y h
 declared_is false x y h = absurd (cc)
 
 pub sound-assignment : (names : List Text) → Sound (assignment names) spell_assignment
@@ -141,7 +140,7 @@ sound-assignment names = record {
       let head = after-both (name x ∷ []) (mark (codes "=") ∷ []) ws to.1 begins ∙ e3 in
       let front = after-placed (name x ∷ mark (codes "=") ∷ []) ws mid head in
       let parts = (sound-row (codes "+") (operand names) spell_operand (sound-operand names)).spelled mid sum.1 sum.0 e4 in
-      subst P (some_same (record { to = x; at = place ws; sum = sum.0 }, sum.1) (a, rest) h4)
+      subst P (same_Some (record { to = x; at = place ws; sum = sum.0 }, sum.1) (a, rest) h4)
       (after-both (placed (place ws) (name x ∷ mark (codes "=") ∷ [])) (spell_row (codes "+") spell_operand sum.0) ws mid front ∙ parts)))));
 }
 
@@ -170,7 +169,7 @@ sound-arm names = record {
       let body = after-both (spell_steps inner.0) (mark (codes "}") ∷ []) inside inner.1 (steps_sound names inside) ∙ e4 in
       let tail = spell_steps inner.0 ++ mark (codes "}") ∷ [] in
       let braces = after-both (placed (place block) (mark (codes "{") ∷ [])) tail block inside open_brace ∙ body in
-      subst P (some_same (record { opcode = opcode.0; at = place block; steps = inner.0 }, end) (a, rest) h4)
+      subst P (same_Some (record { opcode = opcode.0; at = place block; steps = inner.0 }, end) (a, rest) h4)
       (after-both (hex 32 opcode.0 ∷ mark (codes "=>") ∷ []) (placed (place block) (mark (codes "{") ∷ []) ++ tail) ws block head ∙ braces)))));
 }
 
@@ -184,7 +183,7 @@ sound-register = record {
       let P : Register × List Word → Type 0 = λ q. after (spell_register q.0) ws ≡ Some q.1 in
       let named_so = after-both (name x.0 ∷ []) (type_words 64) mid x.1 (sound-name.spelled mid x.1 x.0 e2) ∙ e3 in
       let whole = after-both (name (codes "register") ∷ []) (name x.0 ∷ type_words 64) ws mid e1 ∙ named_so in
-      subst P (some_same (record { name = x.0; at = place ws }, end) (r, rest) h3)
+      subst P (same_Some (record { name = x.0; at = place ws }, end) (r, rest) h3)
       (after-placed (name (codes "register") ∷ name x.0 ∷ type_words 64) ws end whole))));
 }
 
@@ -215,6 +214,6 @@ sound-instr names = record {
       let opened = after-both (placed (place on) (name (codes "op") ∷ mark (codes "{") ∷ [])) rest_of on inside (after-placed (name (codes "op") ∷ mark (codes "{") ∷ []) on inside e3) ∙ rows in
       let from_op = placed (place on) (name (codes "op") ∷ mark (codes "{") ∷ []) ++ rest_of in
       let matched = after-both (placed (place body) (name (codes "match") ∷ [])) from_op body on (after-placed (name (codes "match") ∷ []) body on e2) ∙ opened in
-      subst P (some_same (record { at = place ws; match_at = place body; on_at = place on; arms = arms.0; comma = comma }, end) (f, rest) h5)
+      subst P (same_Some (record { at = place ws; match_at = place body; on_at = place on; arms = arms.0; comma = comma }, end) (f, rest) h5)
       (after-both (placed (place ws) head_words) (placed (place body) (name (codes "match") ∷ []) ++ from_op) ws body (after-placed head_words ws body e1) ∙ matched))))));
 }

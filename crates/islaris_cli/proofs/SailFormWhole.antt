@@ -11,7 +11,7 @@ use Rattle.islaris_cli.specs.SailForm.{order_words, register, register_names, en
 use Rattle.islaris_cli.specs.SailFormNames.{names_of, are_names}
 use Rattle.islaris_cli.specs.SailFormReading.{maybe, all, each}
 use Rattle.islaris_cli.specs.SailFormSyntax.{Register, Instr, register_definition, order_definitions, instr_definition, instr_definitions, program}
-use Rattle.islaris_cli.proofs.SailFormBehind.{some_same}
+use Rattle.std.proofs.lemmas.Option.{same_Some}
 
 -- the registers that the words have
 abbrev pub found : List Word → List Register × List Word
@@ -81,7 +81,7 @@ whole_is : (ordered : Bool) (rs : List Register) (defs : List Definition) (o : O
     → Some (defs ++ option_to_list f) ≡ option_map program (option_map (λ i. record { ordered = ordered; registers = rs; instr = i }) o)
 whole_is ordered rs defs None f e h = absurd (cc)
 whole_is ordered rs defs (Some i) f e h =
-    let is = some_same f (option_map instr_definition i) e in
+    let is = same_Some f (option_map instr_definition i) e in
     ap Some (ap (λ l. l ++ option_to_list f) h ∙ append_assoc (order_definitions ordered) (map register_definition rs) (option_to_list f) ∙ ap (λ l. order_definitions ordered ++ (map register_definition rs ++ l)) (ap option_to_list is ∙ ending_is i))
 
 -- the program, with the function or without

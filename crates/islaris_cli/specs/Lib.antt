@@ -1,3 +1,4 @@
+pub mod Binding
 pub mod Accepted
 pub mod ProofForm
 pub mod ProofFormConditions

@@ -11,6 +11,7 @@ use Rattle.islaris_cli.specs.declared.proof_form.NamedValue.{NamedValue}
 use Rattle.islaris_cli.specs.declared.proof_form.NamedProof.{NamedProof}
 use Rattle.islaris_cli.specs.declared.proof_form.ReadProof.{ReadProof}
 use Rattle.islaris_cli.specs.declared.proof_form.ReadProof.TheVariants as read
+use Rattle.islaris_cli.specs.Binding.{◌>>=◌}
 use Rattle.islaris_cli.specs.ProofFormWords.{Lexeme, lexemes, the_name, the_mark, the_version, name_of, free_name_of, literal_of, address_of, full_address_of, is_close}
 
 -- ---- rules: each takes what it reads from the front of the lexemes, and leaves the others; none where its form isn't there
@@ -18,12 +19,6 @@ use Rattle.islaris_cli.specs.ProofFormWords.{Lexeme, lexemes, the_name, the_mark
 -- what a rule reads, and the lexemes that it leaves
 abbrev pub Reading : Type 0 → Type 0
 Reading A = Option (A × List Lexeme)
-
--- one rule after another
-infixl 10 ◌>>=◌
-abbrev pub ◌>>=◌ : {A B : Type 0} → Option A → (A → Option B) → Option B
-None >>= f = None
-(Some x) >>= f = f x
 
 -- the first lexeme
 abbrev pub first : List Lexeme → Reading Lexeme

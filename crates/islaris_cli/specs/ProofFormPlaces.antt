@@ -7,11 +7,8 @@ use Rattle.lex_core.specs.declared.name.RegDecl.{RegDecl}
 use Rattle.lex_core.specs.Classes.{Text}
 use Rattle.islaris_cli.specs.declared.proof_form.NamedValue.{NamedValue}
 use Rattle.islaris_cli.specs.declared.proof_form_places.PlacedValue.{PlacedValue}
-use Rattle.islaris_cli.specs.ProofForm.{◌>>=◌}
-
--- a register's width in bits
-abbrev pub width_of : RegDecl → ℕ
-width_of r = r.width
+use Rattle.islaris_cli.specs.Binding.{◌>>=◌}
+use Rattle.sail_eval.specs.Typing.{width_in}
 
 -- whether the register has this name
 abbrev pub is_named : Text → RegDecl → Bool
@@ -21,7 +18,7 @@ is_named z r = bytes_eq r.name z
 unfoldable pub place : List RegDecl → ℕ → NamedValue → Option PlacedValue
 place rs pc v = do
   k ← position_from (is_named v.register) 0 rs
-  width ← slice_get (map width_of rs) k
+  width ← slice_get (map width_in rs) k
   if not (k == pc) && width == v.value.width then Some (record { register = k; value = v.value }) else None
 
 -- each value with its register's number

@@ -10,7 +10,8 @@ use Rattle.islaris_cli.specs.declared.sail_form.words.Word.{Word}
 use Rattle.islaris_cli.specs.SailFormWords.{words}
 use Rattle.islaris_cli.specs.SailFormSpelled.{Spelled, name, mark, number, after}
 use Rattle.islaris_cli.specs.SailFormNames.{is_among, are_names}
-use Rattle.islaris_cli.specs.SailFormReading.{Reading, ◌>>=◌, first_word, a_name, a_hex, place, maybe, all, row}
+use Rattle.islaris_cli.specs.Binding.{◌>>=◌}
+use Rattle.islaris_cli.specs.SailFormReading.{Reading, first_word, a_name, a_hex, place, maybe, all, row}
 use Rattle.islaris_cli.specs.SailFormSyntax.{Row, Operand, named, literal, Assignment, Arm, Instr, Register, Sail, program}
 
 -- ---- words that stand in the form as they are

@@ -5,17 +5,13 @@ use Rattle.lex_core.specs.Classes.{Text}
 use Rattle.islaris_cli.specs.declared.sail_form.words.Meaning.{Meaning}
 use Rattle.islaris_cli.specs.declared.sail_form.words.Meaning.TheVariants as meaning
 use Rattle.islaris_cli.specs.declared.sail_form.words.Word.{Word}
+use Rattle.islaris_cli.specs.Binding.{◌>>=◌}
 use Rattle.islaris_cli.specs.SailFormSpelled.{Spelled, mark, after}
 use Rattle.islaris_cli.specs.SailFormSyntax.{Row}
 
 -- what is read and the words behind it; none where it doesn't stand in front
 abbrev pub Reading : Type 0 → Type 0
 Reading A = Option (A × List Word)
-
-infixl 10 ◌>>=◌
--- a reading, and then what goes on from it
-abbrev pub ◌>>=◌ : {A B : Type 0} → Option A → (A → Option B) → Option B
-o >>= f = option_and_then f o
 
 -- the name that a word is
 abbrev pub name_of : Meaning → Option Text

@@ -1,9 +1,9 @@
 -- What a check says of three texts: the one answer that they have.
-use Rattle.std.specs.Prelude.{ℕ, Bool, ◌++◌, List, [], ◌∷◌, codes, length, take, bytes_eq, Option, Some, None, if◌then◌else◌, unwrap_or}
+use Rattle.std.specs.Prelude.{ℕ, Bool, ◌++◌, List, [], ◌∷◌, codes, length, take, bytes_eq, Option, Some, None, if◌then◌else◌}
 use Rattle.std.specs.Option.{option_map}
 use Rattle.std.specs.Fmt.{decimal}
 use Rattle.sail_syntax.specs.Program.{Definition, registers_of}
-use Rattle.sail_eval.specs.Typing.{has_instr, pc_number}
+use Rattle.sail_eval.specs.Typing.{has_instr}
 use Rattle.machine_core.specs.Program.{machine_of}
 use Rattle.machine_core.specs.First.{Constants}
 use Rattle.islaris_cli.specs.Texts.{Text, address_text, report_text, on_file_text, on_run_text}
@@ -16,7 +16,8 @@ use Rattle.islaris_cli.specs.declared.proof_form.ReadProof.TheVariants as read
 use Rattle.islaris_cli.specs.declared.run_form.RunEnd.{RunEnd}
 use Rattle.islaris_cli.specs.declared.run_form.RunEnd.TheVariants as run_end
 use Rattle.islaris_cli.specs.SailForm.{sail_form}
-use Rattle.islaris_cli.specs.ProofForm.{◌>>=◌, proof_form}
+use Rattle.islaris_cli.specs.Binding.{◌>>=◌}
+use Rattle.islaris_cli.specs.ProofForm.{proof_form}
 use Rattle.islaris_cli.specs.ProofFormPlaces.{places}
 use Rattle.islaris_cli.specs.ProofFormConditions.{constants, constants_of}
 use Rattle.islaris_cli.specs.RunForm.{run_end_of}
@@ -72,16 +73,12 @@ on_end p (run_end.TooMany pc) = beyond (on_run_text (codes "limit") 46 p.spec p.
 
 -- ---- the check
 
--- the number of the register PC
-abbrev pub pc_in : List Definition → ℕ
-pc_in defs = unwrap_or (pc_number defs) 0
-
 -- the constants of a proof over a program and a raw image, where its conditions hold
 unfoldable pub constants_for : List Definition → NamedProof → Text → Option Constants
 constants_for defs p image =
-    places (registers_of defs) (pc_in defs) p.entry >>= λ entry.
-    places (registers_of defs) (pc_in defs) p.wanted >>= λ wanted.
-    option_map (λ c. constants_of c image) (constants p entry wanted (length (registers_of defs)) (pc_in defs) (length image))
+    places (registers_of defs) (machine_of defs).pc p.entry >>= λ entry.
+    places (registers_of defs) (machine_of defs).pc p.wanted >>= λ wanted.
+    option_map (λ c. constants_of c image) (constants p entry wanted (length (registers_of defs)) (machine_of defs).pc (length image))
 
 -- with the constants, or without
 abbrev pub on_constants : Row → List Definition → NamedProof → Option Constants → Verdict

@@ -4,8 +4,9 @@ ghost use Rattle.std.specs.Prelude.{◌≡◌, ◌<◌, length, map, IfOk, IfSom
 ghost use Rattle.std.specs.List.{list_any, position_from};
 ghost use Rattle.std.specs.Option.{option_map};
 ghost use Rattle.islaris_cli.specs.ProofForm.{AreBits};
+ghost use Rattle.sail_eval.specs.Typing.{width_in};
 ghost use Rattle.islaris_cli.specs.ProofFormPlaces as spec;
-ghost use Rattle.islaris_cli.specs.ProofFormPlaces.{ArePlaced, width_of, pair_of};
+ghost use Rattle.islaris_cli.specs.ProofFormPlaces.{ArePlaced, pair_of};
 
 use crate::proof_form::NamedValue;
 use bv_bits::Bits;
@@ -66,7 +67,7 @@ pub fn place_registers(
     given: &[NamedValue],
 ) -> Result<Option<Items<PlacedValue>>, NoMemory>
     ensures exact { IfOk result (λ r. r ≡ spec.places registers.now pc given.now) }
-    ensures placed { AreBits given.now → IfOk result (λ r. IfSome r (λ values. ArePlaced (map width_of registers.now) pc (map pair_of values))) }
+    ensures placed { AreBits given.now → IfOk result (λ r. IfSome r (λ values. ArePlaced (map width_in registers.now) pc (map pair_of values))) }
 {
     let mut values = Items::new(alloc);
     for named in given {

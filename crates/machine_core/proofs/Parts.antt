@@ -5,6 +5,7 @@ use Rattle.std.proofs.lemmas.List.Elements.{All-head, All-tail, All-cons, All-ni
 use Rattle.bv_bits.specs.declared.Bits.{Bits}
 use Rattle.state_core.specs.Claims.{Part, byte, register, device, bytes_from, all_parts, IsDisjoint}
 use Rattle.machine_core.specs.First.{values_are}
+use Rattle.std.proofs.lemmas.List.Kept.{AllPairs-cons}
 
 -- the registers of values, as parts
 abbrev pub registers_in : List (ℕ × Bits) → List Part
@@ -68,19 +69,10 @@ differ_by : (x y : Part) (f : Part → ℕ) → f x ≢ f y → x ≢ y
 differ_by x y f h e = h (ap f e)
 
 -- pairs of a list with one more in front
-pairs_nil : {X : Type 0} (R : X → X → Type 0) → AllPairs R []
-pairs_nil R i j d less below = absurd (omega (arith, below))
-
-pairs_cons : {X : Type 0} (R : X → X → Type 0) (x : X) (xs : List X) → All (λ y. R x y) xs → AllPairs R xs → AllPairs R (x ∷ xs)
-pairs_cons R x xs f p zero zero d less below = absurd (omega (arith, less))
-pairs_cons R x xs f p zero (suc j) d less below = f j d (omega (arith, below))
-pairs_cons R x xs f p (suc i) zero d less below = absurd (omega (arith, less))
-pairs_cons R x xs f p (suc i) (suc j) d less below = p i j d (omega (arith, less)) (omega (arith, below))
-
-pairs_head : {X : Type 0} (R : X → X → Type 0) (x : X) (xs : List X) → AllPairs R (x ∷ xs) → All (λ y. R x y) xs
+pub pairs_head : {X : Type 0} (R : X → X → Type 0) (x : X) (xs : List X) → AllPairs R (x ∷ xs) → All (λ y. R x y) xs
 pairs_head R x xs h k d below = h 0 (suc k) d (omega arith) (omega (arith, below))
 
-pairs_tail : {X : Type 0} (R : X → X → Type 0) (x : X) (xs : List X) → AllPairs R (x ∷ xs) → AllPairs R xs
+pub pairs_tail : {X : Type 0} (R : X → X → Type 0) (x : X) (xs : List X) → AllPairs R (x ∷ xs) → AllPairs R xs
 pairs_tail R x xs h i j d less below = h (suc i) (suc j) d (omega (arith, less)) (omega (arith, below))
 
 -- registers that differ by their numbers
@@ -92,9 +84,9 @@ register_fresh r (v ∷ vs) h =
     (register_fresh r vs (All-tail (λ n. r ≢ n) v.0 (map (λ v. v.0) vs) h))
 
 pub registers_differ : (vs : List (ℕ × Bits)) → AllPairs ◌≢◌ (map (λ v. v.0) vs) → IsDisjoint (registers_in vs)
-registers_differ [] h = pairs_nil ◌≢◌
+registers_differ [] h = λ i j d less below. absurd (omega arith)
 registers_differ (v ∷ vs) h =
-    pairs_cons ◌≢◌ (register v.0) (registers_in vs) (register_fresh v.0 vs (pairs_head ◌≢◌ v.0 (map (λ v. v.0) vs) h))
+    AllPairs-cons ◌≢◌ (register v.0) (registers_in vs) (register_fresh v.0 vs (pairs_head ◌≢◌ v.0 (map (λ v. v.0) vs) h))
     (registers_differ vs (pairs_tail ◌≢◌ v.0 (map (λ v. v.0) vs) h))
 
 -- a byte below other bytes, and a byte before registers
@@ -110,4 +102,4 @@ byte_fresh (suc n) lo a less vs =
 pub parts_differ : (n lo : ℕ) (vs : List (ℕ × Bits)) → AllPairs ◌≢◌ (map (λ v. v.0) vs) → IsDisjoint (bytes_from lo n ++ registers_in vs)
 parts_differ zero lo vs h = registers_differ vs h
 parts_differ (suc n) lo vs h =
-    pairs_cons ◌≢◌ (byte lo) (bytes_from (lo + 1) n ++ registers_in vs) (byte_fresh n (lo + 1) lo (omega arith) vs) (parts_differ n (lo + 1) vs h)
+    AllPairs-cons ◌≢◌ (byte lo) (bytes_from (lo + 1) n ++ registers_in vs) (byte_fresh n (lo + 1) lo (omega arith) vs) (parts_differ n (lo + 1) vs h)

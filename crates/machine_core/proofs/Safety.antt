@@ -363,7 +363,8 @@ module _ (defs : List Definition) (law : (word : ℕ) (from : List Bits) → IsQ
 
 -- ---- the registers of an entry
 
-same_bits : (a b : Bits) → a.width ≡ b.width → a.value ≡ b.value → a ≡ b
+-- values are the same where their widths and their numbers are
+pub same_bits : (a b : Bits) → a.width ≡ b.width → a.value ≡ b.value → a ≡ b
 same_bits a b w v = λ i. record { width = w i; value = v i }
 
 values_same : (s p : State) (states : ℕ → ℕ) (r : ℕ) (vs : List (ℕ × Bits)) → All (Holds s states) (values_are vs) → All (λ v. register_of p v.0 ≡ v.1) vs

@@ -6,10 +6,7 @@ use Rattle.sail_syntax.specs.Tree.{Text, Tree, node, Form, unit, lit, truth, nam
 use Rattle.sail_syntax.specs.Program.{Definition, order, register, enumeration, signature, function, function_of}
 use Rattle.sail_eval.specs.Covered.{covers_pattern, covers, covers_form, covers_all, covers_arms, covers_step, covers_steps, covers_definition, covers_program}
 use Rattle.sail_eval.specs.Quiet.{is_quiet, is_quiet_form, are_quiet, are_quiet_arms, is_quiet_step, are_quiet_steps, is_quiet_definition, IsQuietProgram}
-use Rattle.sail_eval.proofs.QuietLemmas.{and_first, and_second}
-
-both : (a b : Bool) → a ≡ true → b ≡ true → (a && b) ≡ true
-both a b p q = rw (p, q) refl
+use Rattle.std.proofs.lemmas.Bool.{and_parts, and_from}
 
 module _ (is_known : Text → Bool) where
   mutual
@@ -21,8 +18,8 @@ module _ (is_known : Text → Bool) where
     covered_form (name x) h = refl
     covered_form (chain op parts) h = covered_all parts h
     covered_form (cases on arms) h =
-        both (covers is_known on) (covers_arms is_known arms) (covered_tree on (and_first (is_quiet on) (are_quiet_arms arms) h))
-        (covered_arms arms (and_second (is_quiet on) (are_quiet_arms arms) h))
+        and_from (covers is_known on) (covers_arms is_known arms) (covered_tree on ((and_parts (is_quiet on) (are_quiet_arms arms) h).0))
+        (covered_arms arms ((and_parts (is_quiet on) (are_quiet_arms arms) h).1))
     covered_form (assign x by) h = covered_tree by h
     covered_form (block steps) h = covered_steps steps h
     covered_form unit h = absurd (cc)
@@ -41,15 +38,15 @@ module _ (is_known : Text → Bool) where
     covered_all : (parts : Trees) → are_quiet parts ≡ true → covers_all is_known parts ≡ true
     covered_all none h = refl
     covered_all (some t rest) h =
-        both (covers is_known t) (covers_all is_known rest) (covered_tree t (and_first (is_quiet t) (are_quiet rest) h)) (covered_all rest (and_second (is_quiet t) (are_quiet rest) h))
+        and_from (covers is_known t) (covers_all is_known rest) (covered_tree t ((and_parts (is_quiet t) (are_quiet rest) h).0)) (covered_all rest ((and_parts (is_quiet t) (are_quiet rest) h).1))
 
     covered_arms : (arms : Cases) → are_quiet_arms arms ≡ true → covers_arms is_known arms ≡ true
     covered_arms no_case h = refl
     covered_arms (case (arm p body) rest) h =
-        let one : (covers_pattern p && is_quiet body) ≡ true = and_first (covers_pattern p && is_quiet body) (are_quiet_arms rest) h in
-        both (covers_pattern p && covers is_known body) (covers_arms is_known rest)
-        (both (covers_pattern p) (covers is_known body) (and_first (covers_pattern p) (is_quiet body) one) (covered_tree body (and_second (covers_pattern p) (is_quiet body) one)))
-        (covered_arms rest (and_second (covers_pattern p && is_quiet body) (are_quiet_arms rest) h))
+        let one : (covers_pattern p && is_quiet body) ≡ true = (and_parts (covers_pattern p && is_quiet body) (are_quiet_arms rest) h).0 in
+        and_from (covers_pattern p && covers is_known body) (covers_arms is_known rest)
+        (and_from (covers_pattern p) (covers is_known body) ((and_parts (covers_pattern p) (is_quiet body) one).0) (covered_tree body ((and_parts (covers_pattern p) (is_quiet body) one).1)))
+        (covered_arms rest ((and_parts (covers_pattern p && is_quiet body) (are_quiet_arms rest) h).1))
 
     covered_step : (s : Step) → is_quiet_step s ≡ true → covers_step is_known s ≡ true
     covered_step (does e) h = covered_tree e h
@@ -59,8 +56,8 @@ module _ (is_known : Text → Bool) where
     covered_steps : (steps : Steps) → are_quiet_steps steps ≡ true → covers_steps is_known steps ≡ true
     covered_steps done h = refl
     covered_steps (next s rest) h =
-        both (covers_step is_known s) (covers_steps is_known rest) (covered_step s (and_first (is_quiet_step s) (are_quiet_steps rest) h))
-        (covered_steps rest (and_second (is_quiet_step s) (are_quiet_steps rest) h))
+        and_from (covers_step is_known s) (covers_steps is_known rest) (covered_step s ((and_parts (is_quiet_step s) (are_quiet_steps rest) h).0))
+        (covered_steps rest ((and_parts (is_quiet_step s) (are_quiet_steps rest) h).1))
 
   covered_definition : (d : Definition) → is_quiet_definition d ≡ true → covers_definition is_known d ≡ true
   covered_definition order h = refl
@@ -72,8 +69,8 @@ module _ (is_known : Text → Bool) where
   covered_definitions : (ds : List Definition) → list_all is_quiet_definition ds ≡ true → list_all (covers_definition is_known) ds ≡ true
   covered_definitions [] h = refl
   covered_definitions (d ∷ ds) h =
-      both (covers_definition is_known d) (list_all (covers_definition is_known) ds) (covered_definition d (and_first (is_quiet_definition d) (list_all is_quiet_definition ds) h))
-      (covered_definitions ds (and_second (is_quiet_definition d) (list_all is_quiet_definition ds) h))
+      and_from (covers_definition is_known d) (list_all (covers_definition is_known) ds) (covered_definition d ((and_parts (is_quiet_definition d) (list_all is_quiet_definition ds) h).0))
+      (covered_definitions ds ((and_parts (is_quiet_definition d) (list_all is_quiet_definition ds) h).1))
 
 pub quiet_covered : (defs : List Definition) → IsQuietProgram defs → covers_program defs ≡ true
 quiet_covered defs quiet = covered_definitions (λ f. is_some (function_of defs f)) defs quiet.each

@@ -5,5 +5,5 @@ mod Turns
 mod Weight
 pub mod CoveredLemmas
 pub mod QuietLemmas
-mod Counter
+pub mod Counter
 mod Ending

@@ -33,6 +33,8 @@ use Rattle.sail_eval.specs.Instr.{Ended, whole, cut, end_of, instr_of, uses_of_i
 use Rattle.sail_eval.specs.Typing.{instr_name}
 use Rattle.sail_eval.specs.Covered.{covers_pattern}
 use Rattle.sail_eval.specs.Quiet.{is_quiet, is_quiet_form, are_quiet, are_quiet_arms, is_quiet_step, are_quiet_steps, is_quiet_definition, IsQuietProgram, with_registers, register_in, IsMatchFail, IsQuietRun}
+use Rattle.std.proofs.lemmas.Bool.{and_parts}
+use Rattle.std.proofs.lemmas.List.Quantifiers.{position-Some}
 
 -- the outcome of an evaluation, less the rest of the world: it gives something, or no arm of a match at this place fits
 data QuietOut (X : Type 0) : Type 0 where
@@ -50,21 +52,6 @@ fill_over (broken at ss) rs w = refl
 -- a world is one with its registers
 same_world : (w : World) (rs : List Bits) → w.state.registers ≡ rs → w ≡ with_registers rs w
 same_world w rs is = ap (λ r. with_registers r w) is
-
-pub and_first : (a b : Bool) → (a && b) ≡ true → a ≡ true
-and_first true b is = refl
-and_first false b is = is
-
-pub and_second : (a b : Bool) → (a && b) ≡ true → b ≡ true
-and_second true b is = is
-and_second false b is = absurd (cc)
-
-pub position_below : {X : Type 0} (p : X → Bool) (xs : List X) (i : ℕ) → position p xs ≡ Some i → i < length xs
-position_below p xs i is = by_bound (nat_lt (position_or_len p xs) (length xs)) refl is
-  where
-    by_bound : (b : Bool) → nat_lt (position_or_len p xs) (length xs) ≡ b → cond b (Some (position_or_len p xs)) None ≡ Some i → i < length xs
-    by_bound true below e = let same : position_or_len p xs ≡ i = cc in subst (λ k. k < length xs) same (ltb-true (position_or_len p xs) (length xs) below)
-    by_bound false below e = absurd (cc)
 
 module _ (registers : List RegDecl) where
   abbrev Declared : Use → Type 0
@@ -169,7 +156,7 @@ module _ (registers : List RegDecl) where
 
   named_declared : (k : ℕ → Use) (x : Text) (o : Option Local) → ((r : ℕ) → register_in (k r) ≡ r) → All Declared (named k registers x o)
   named_declared k x (Some v) own = All-nil Declared
-  named_declared k x None own = use_declared k (register_at registers x) own (λ r is. position_below (λ d. bytes_eq d.name x) registers r is)
+  named_declared k x None own = use_declared k (register_at registers x) own (λ r is. (position-Some (λ d. bytes_eq d.name x) registers r (record { name = []; width = 0 }) is).0)
 
   quiet_read : (x : Text) (l : List Slot) (rs : List Bits) → QuietMeaning (read registers x) (λ l w. named reads registers x (look x l)) l rs
   quiet_read x l rs = record {
@@ -250,8 +237,8 @@ module _ (registers : List RegDecl) where
       quiet_form (chain op parts) at h l rs = quiet_chain parts op h l rs
       quiet_form (cases on arms) at h l rs =
           quiet_bind (eval registers calls on) (λ v. eval_arms registers calls arms at v) (uses registers calls calls_use on) (λ v. uses_of_arms registers calls calls_use arms v) l rs
-          (quiet_tree on (and_first (is_quiet on) (are_quiet_arms arms) h) l rs)
-          (λ v l' rs'. quiet_arms arms at v (and_second (is_quiet on) (are_quiet_arms arms) h) l' rs')
+          (quiet_tree on ((and_parts (is_quiet on) (are_quiet_arms arms) h).0) l rs)
+          (λ v l' rs'. quiet_arms arms at v ((and_parts (is_quiet on) (are_quiet_arms arms) h).1) l' rs')
       quiet_form (assign x by) at h l rs =
           quiet_bind (eval registers calls by) (λ v. write registers x v) (uses registers calls calls_use by) (λ v l w. named writes registers x (look x l)) l rs
           (quiet_tree by h l rs) (λ v l' rs'. quiet_write x v l' rs')
@@ -275,8 +262,8 @@ module _ (registers : List RegDecl) where
       quiet_chain none op h l rs = quiet_pure value.Unit l rs
       quiet_chain (some t rest) op h l rs =
           quiet_bind (eval registers calls t) (λ v. eval_rest registers calls rest op v) (uses registers calls calls_use t) (λ v. uses_of_rest registers calls calls_use rest op v) l rs
-          (quiet_tree t (and_first (is_quiet t) (are_quiet rest) h) l rs)
-          (λ v l' rs'. quiet_rest rest op v (and_second (is_quiet t) (are_quiet rest) h) l' rs')
+          (quiet_tree t ((and_parts (is_quiet t) (are_quiet rest) h).0) l rs)
+          (λ v l' rs'. quiet_rest rest op v ((and_parts (is_quiet t) (are_quiet rest) h).1) l' rs')
 
       quiet_rest : (parts : Trees) (op : Infix) (v : Value) → are_quiet parts ≡ true → (l : List Slot) (rs : List Bits)
           → QuietMeaning (eval_rest registers calls parts op v) (uses_of_rest registers calls calls_use parts op v) l rs
@@ -287,20 +274,20 @@ module _ (registers : List RegDecl) where
           (quiet_pure v l rs)
           (quiet_bind (eval registers calls t) (λ u. eval_rest registers calls rest op (applied op v u)) (uses registers calls calls_use t)
           (λ u. uses_of_rest registers calls calls_use rest op (applied op v u)) l rs
-          (quiet_tree t (and_first (is_quiet t) (are_quiet rest) h) l rs)
-          (λ u l' rs'. quiet_rest rest op (applied op v u) (and_second (is_quiet t) (are_quiet rest) h) l' rs'))
+          (quiet_tree t ((and_parts (is_quiet t) (are_quiet rest) h).0) l rs)
+          (λ u l' rs'. quiet_rest rest op (applied op v u) ((and_parts (is_quiet t) (are_quiet rest) h).1) l' rs'))
 
       quiet_arms : (arms : Cases) (at : ℕ) (v : Value) → are_quiet_arms arms ≡ true → (l : List Slot) (rs : List Bits)
           → QuietMeaning (eval_arms registers calls arms at v) (uses_of_arms registers calls calls_use arms v) l rs
       quiet_arms no_case at v h l rs = quiet_faulty at l rs
       quiet_arms (case (arm p body) rest) at v h l rs =
-          let one : (covers_pattern p && is_quiet body) ≡ true = and_first (covers_pattern p && is_quiet body) (are_quiet_arms rest) h in
+          let one : (covers_pattern p && is_quiet body) ≡ true = (and_parts (covers_pattern p && is_quiet body) (are_quiet_arms rest) h).0 in
           quiet_if (fits p v) (within (bind (enter p v) (λ _. eval registers calls body))) (eval_arms registers calls rest at v)
           (λ l w. following (enter p v l w) (λ _. uses registers calls calls_use body)) (uses_of_arms registers calls calls_use rest v) l rs
           (quiet_within (bind (enter p v) (λ _. eval registers calls body)) (λ l w. following (enter p v l w) (λ _. uses registers calls calls_use body)) l rs
           (quiet_bind (enter p v) (λ _. eval registers calls body) unused (λ _. uses registers calls calls_use body) l rs (quiet_enter p v l rs)
-          (λ _ l' rs'. quiet_tree body (and_second (covers_pattern p) (is_quiet body) one) l' rs')))
-          (quiet_arms rest at v (and_second (covers_pattern p && is_quiet body) (are_quiet_arms rest) h) l rs)
+          (λ _ l' rs'. quiet_tree body ((and_parts (covers_pattern p) (is_quiet body) one).1) l' rs')))
+          (quiet_arms rest at v ((and_parts (covers_pattern p && is_quiet body) (are_quiet_arms rest) h).1) l rs)
 
       quiet_step : (s : Step) → is_quiet_step s ≡ true → (l : List Slot) (rs : List Bits)
           → QuietMeaning (eval_step registers calls s) (uses_of_step registers calls calls_use s) l rs
@@ -314,8 +301,8 @@ module _ (registers : List RegDecl) where
       quiet_steps (next s rest) v h l rs =
           quiet_bind (eval_step registers calls s) (λ u. eval_steps registers calls rest u) (uses_of_step registers calls calls_use s)
           (λ _. uses_of_steps registers calls calls_use rest) l rs
-          (quiet_step s (and_first (is_quiet_step s) (are_quiet_steps rest) h) l rs)
-          (λ u l' rs'. quiet_steps rest u (and_second (is_quiet_step s) (are_quiet_steps rest) h) l' rs')
+          (quiet_step s ((and_parts (is_quiet_step s) (are_quiet_steps rest) h).0) l rs)
+          (λ u l' rs'. quiet_steps rest u ((and_parts (is_quiet_step s) (are_quiet_steps rest) h).1) l' rs')
 
   -- ---- calls
 
@@ -336,18 +323,18 @@ module _ (registers : List RegDecl) where
   quiet_calls (enumeration x members at ∷ ds) h f vs l rs = absurd (cc)
   quiet_calls (signature x args result at ∷ ds) h f vs l rs = absurd (cc)
   quiet_calls (function d ∷ ds) h f vs l rs =
-      let q = quiet_tree (calls_of registers ds) (uses_of_calls registers ds) d.body (and_first (is_quiet d.body) (list_all is_quiet_definition ds) h) (bound d.params vs 0 []) rs in
+      let q = quiet_tree (calls_of registers ds) (uses_of_calls registers ds) d.body ((and_parts (is_quiet d.body) (list_all is_quiet_definition ds) h).0) (bound d.params vs 0 []) rs in
       quiet_if (bytes_eq d.name f) (λ locals world. restores locals (eval registers (calls_of registers ds) d.body (bound d.params vs 0 []) world)) (calls_of registers ds f vs)
       (λ locals world. uses registers (calls_of registers ds) (uses_of_calls registers ds) d.body (bound d.params vs 0 []) world) (uses_of_calls registers ds f vs) l rs
       (record { out = restored l q.out; list = q.list; comes = λ w e. ap (restores l) (q.comes w e) ∙ restored_fill l q.out w; used = q.used; declared = q.declared })
-      (quiet_calls ds (and_second (is_quiet d.body) (list_all is_quiet_definition ds) h) f vs l rs)
+      (quiet_calls ds ((and_parts (is_quiet d.body) (list_all is_quiet_definition ds) h).1) f vs l rs)
 
 quiet_reverse : (ds : List Definition) → list_all is_quiet_definition ds ≡ true → list_all is_quiet_definition (reverse ds) ≡ true
 quiet_reverse [] h = refl
 quiet_reverse (d ∷ ds) h =
     ap (list_all is_quiet_definition) (reverse-append (d ∷ []) ds) ∙ list_all-append is_quiet_definition (reverse ds) (d ∷ [])
-    ∙ both (list_all is_quiet_definition (reverse ds)) (is_quiet_definition d) (quiet_reverse ds (and_second (is_quiet_definition d) (list_all is_quiet_definition ds) h))
-    (and_first (is_quiet_definition d) (list_all is_quiet_definition ds) h)
+    ∙ both (list_all is_quiet_definition (reverse ds)) (is_quiet_definition d) (quiet_reverse ds ((and_parts (is_quiet_definition d) (list_all is_quiet_definition ds) h).1))
+    ((and_parts (is_quiet_definition d) (list_all is_quiet_definition ds) h).0)
   where
     both : (a b : Bool) → a ≡ true → b ≡ true → (a && (b && true)) ≡ true
     both a b p q = rw (p, q) refl

@@ -35,7 +35,7 @@ is_pc r = bytes_eq r.name (codes "PC") && nat_eq r.width 64
 abbrev pub pc_number : List Definition → Option ℕ
 pc_number defs = position is_pc (registers_of defs)
 
--- where the definition of `instr` begins
+-- where a function begins; 0 where there is none
 abbrev pub at_place : Option Function → ℕ
 at_place None = 0
 at_place (Some f) = f.at

@@ -1,5 +1,5 @@
 use Rattle.std.proofs.Common.{◌≡◌, ◌++◌, true, drop}
-use Rattle.islaris_cli.specs.ProofForm.{◌>>=◌}
+use Rattle.islaris_cli.specs.Binding.{◌>>=◌}
 use Rattle.islaris_cli.specs.ProofFormPlaces.{place_each, places, if_distinct, are_distinct}
 use Rattle.islaris_cli.proofs.proof_form_places.place_registers.Given as goal
 

@@ -1,5 +1,6 @@
 use Rattle.std.proofs.Common.{◌≡◌, ◌++◌, Some, length}
-use Rattle.islaris_cli.specs.ProofForm.{items, AreBits, ◌>>=◌}
+use Rattle.islaris_cli.specs.Binding.{◌>>=◌}
+use Rattle.islaris_cli.specs.ProofForm.{items, AreBits}
 use Rattle.islaris_cli.specs.ProofFormReaders.{left}
 use Rattle.islaris_cli.proofs.proof_form_rules.items.Given as goal
 
