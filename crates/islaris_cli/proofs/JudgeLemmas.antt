@@ -16,8 +16,8 @@ use Rattle.islaris_cli.specs.declared.proof_form_constants.ConstantsData.{Consta
 use Rattle.islaris_cli.specs.Binding.{◌>>=◌}
 use Rattle.islaris_cli.specs.ProofForm.{AreBits}
 use Rattle.islaris_cli.specs.ProofFormPlaces.{places, pair_of, ArePlaced}
-use Rattle.islaris_cli.specs.ProofFormConditions.{constants, constants_of}
-use Rattle.islaris_cli.specs.Texts.{Text}
+use Rattle.islaris_cli.specs.ProofFormConditions.{code_in, constants, constants_of}
+use Rattle.state_core.specs.State.{Memory}
 use Rattle.islaris_cli.specs.Verdict.{Verdict, verdict_of, constants_for}
 use Rattle.sail_eval.specs.Typing.{width_in}
 use Rattle.machine_core.specs.Program.{machine_of}
@@ -29,38 +29,40 @@ pc_same defs r is = ap (λ o. unwrap_or o 0) is
 pub said_as : (r : Result Answer NoMemory) (v w : Verdict) → w ≡ v → IfOk r (λ a. verdict_of a ≡ v) → IfOk r (λ a. verdict_of a ≡ w)
 said_as r v w is h = subst (λ x. IfOk r (λ a. verdict_of a ≡ x)) (sym is) h
 
-module _ (defs : List Definition) (p : NamedProof) (image : Text) (rs : List RegDecl) (pc : ℕ) (known : rs ≡ registers_of defs) (counter : pc ≡ (machine_of defs).pc) where
-  constants_from : Option Constants
-  constants_from =
-      places rs pc p.entry >>= λ entry. places rs pc p.wanted >>= λ wanted.
-      option_map (λ c. constants_of c image) (constants p entry wanted (length rs) pc (length image))
+module _ (defs : List Definition) (p : NamedProof) (memory : Memory) (rs : List RegDecl) (pc : ℕ) (known : rs ≡ registers_of defs) (counter : pc ≡ (machine_of defs).pc) where
+  -- with the registers' values, and with the constants
+  abbrev on_values : List RegDecl → ℕ → List PlacedValue → List PlacedValue → Option Constants
+  on_values ds r entry wanted = constants p entry wanted (length ds) r >>= λ c. option_map (constants_of c) (code_in memory c.lo c.hi)
 
-  for_is : constants_for defs p image ≡ constants_from
-  unfolding constants_for constants_from
-  for_is =
-      ap (λ (ds : List RegDecl). places ds (machine_of defs).pc p.entry >>= λ entry. places ds (machine_of defs).pc p.wanted >>= λ wanted.
-      option_map (λ c. constants_of c image) (constants p entry wanted (length ds) (machine_of defs).pc (length image))) (sym known)
-      ∙ ap (λ (r : ℕ). places rs r p.entry >>= λ entry. places rs r p.wanted >>= λ wanted.
-      option_map (λ c. constants_of c image) (constants p entry wanted (length rs) r (length image))) (sym counter)
+  abbrev constants_with : List RegDecl → ℕ → Option Constants
+  constants_with ds r = places ds r p.entry >>= λ entry. places ds r p.wanted >>= λ wanted. on_values ds r entry wanted
 
-  pub no_entry : places rs pc p.entry ≡ None → constants_for defs p image ≡ None
-  unfolding constants_from
-  no_entry e = for_is ∙ ap (λ (o : Option (List PlacedValue)). o >>= λ entry. places rs pc p.wanted >>= λ wanted.
-      option_map (λ c. constants_of c image) (constants p entry wanted (length rs) pc (length image))) e
+  for_is : constants_for defs p memory ≡ constants_with rs pc
+  unfolding constants_for
+  for_is = ap (λ (ds : List RegDecl). constants_with ds (machine_of defs).pc) (sym known) ∙ ap (λ (r : ℕ). constants_with rs r) (sym counter)
 
-  pub no_wanted : (entry : List PlacedValue) → places rs pc p.entry ≡ Some entry → places rs pc p.wanted ≡ None → constants_for defs p image ≡ None
-  unfolding constants_from
-  no_wanted entry e w = for_is ∙ ap (λ (o : Option (List PlacedValue)). o >>= λ entry. places rs pc p.wanted >>= λ wanted.
-      option_map (λ c. constants_of c image) (constants p entry wanted (length rs) pc (length image))) e
-      ∙ ap (λ (o : Option (List PlacedValue)). o >>= λ wanted. option_map (λ c. constants_of c image) (constants p entry wanted (length rs) pc (length image))) w
+  pub no_entry : places rs pc p.entry ≡ None → constants_for defs p memory ≡ None
+  no_entry e = for_is ∙ ap (λ (o : Option (List PlacedValue)). o >>= λ entry. places rs pc p.wanted >>= λ wanted. on_values rs pc entry wanted) e
 
-  pub placed_is : (entry wanted : List PlacedValue) (o : Option ConstantsData) → places rs pc p.entry ≡ Some entry → places rs pc p.wanted ≡ Some wanted
-      → o ≡ constants p entry wanted (length rs) pc (length image) → constants_for defs p image ≡ option_map (λ c. constants_of c image) o
-  unfolding constants_from
-  placed_is entry wanted o e w is = for_is ∙ ap (λ (o : Option (List PlacedValue)). o >>= λ entry. places rs pc p.wanted >>= λ wanted.
-      option_map (λ c. constants_of c image) (constants p entry wanted (length rs) pc (length image))) e
-      ∙ ap (λ (o : Option (List PlacedValue)). o >>= λ wanted. option_map (λ c. constants_of c image) (constants p entry wanted (length rs) pc (length image))) w
-      ∙ ap (option_map (λ c. constants_of c image)) (sym is)
+  with_entry : (entry : List PlacedValue) → places rs pc p.entry ≡ Some entry → constants_for defs p memory ≡ (places rs pc p.wanted >>= λ wanted. on_values rs pc entry wanted)
+  with_entry entry e = for_is ∙ ap (λ (o : Option (List PlacedValue)). o >>= λ entry. places rs pc p.wanted >>= λ wanted. on_values rs pc entry wanted) e
+
+  pub no_wanted : (entry : List PlacedValue) → places rs pc p.entry ≡ Some entry → places rs pc p.wanted ≡ None → constants_for defs p memory ≡ None
+  no_wanted entry e w = with_entry entry e ∙ ap (λ (o : Option (List PlacedValue)). o >>= λ wanted. on_values rs pc entry wanted) w
+
+  with_wanted : (entry wanted : List PlacedValue) → places rs pc p.entry ≡ Some entry → places rs pc p.wanted ≡ Some wanted → constants_for defs p memory ≡ on_values rs pc entry wanted
+  with_wanted entry wanted e w = with_entry entry e ∙ ap (λ (o : Option (List PlacedValue)). o >>= λ wanted. on_values rs pc entry wanted) w
+
+  pub no_constants : (entry wanted : List PlacedValue) → places rs pc p.entry ≡ Some entry → places rs pc p.wanted ≡ Some wanted
+      → None ≡ constants p entry wanted (length rs) pc → constants_for defs p memory ≡ None
+  no_constants entry wanted e w is =
+      with_wanted entry wanted e w ∙ ap (λ (o : Option ConstantsData). o >>= λ c. option_map (constants_of c) (code_in memory c.lo c.hi)) (sym is)
+
+  pub placed_is : (entry wanted : List PlacedValue) (c : ConstantsData) (code : Option (List ℕ)) → places rs pc p.entry ≡ Some entry → places rs pc p.wanted ≡ Some wanted
+      → Some c ≡ constants p entry wanted (length rs) pc → code ≡ code_in memory c.lo c.hi → constants_for defs p memory ≡ option_map (constants_of c) code
+  placed_is entry wanted c code e w is coded =
+      with_wanted entry wanted e w ∙ ap (λ (o : Option ConstantsData). o >>= λ c. option_map (constants_of c) (code_in memory c.lo c.hi)) (sym is)
+      ∙ ap (option_map (constants_of c)) (sym coded)
 
   pub values_placed : (seen given : List NamedValue) (o : Option (List PlacedValue)) (vs : List PlacedValue) → seen ≡ given → AreBits given
       → (AreBits seen → IfSome o (λ values. ArePlaced (map width_in rs) pc (map pair_of values))) → o ≡ Some vs → ArePlaced (widths_in defs) pc (map pair_of vs)

@@ -1,5 +1,6 @@
 pub mod Accepting
 pub mod AddressLemmas
+pub mod CodeLemmas
 pub mod EntryState
 pub mod FirstPath
 pub mod JudgeLemmas

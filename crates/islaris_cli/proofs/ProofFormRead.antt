@@ -17,7 +17,6 @@ use Rattle.islaris_cli.specs.declared.proof_form.NamedValue.{NamedValue}
 use Rattle.islaris_cli.specs.declared.proof_form.NamedProof.{NamedProof}
 use Rattle.islaris_cli.specs.ProofFormWords.{Lexeme, lexemes, Word, Is, Spell, kept, name_of, mark_of, number_of, literal_of, address_of, full_address_of, the_name, the_mark, the_version, free_name_of, is_free, is_close, name, mark, number, address, full_address, literal}
 use Rattle.islaris_cli.specs.ProofForm as spec
-use Rattle.islaris_cli.specs.Binding.{◌>>=◌}
 use Rattle.islaris_cli.specs.ProofForm.{Reading}
 use Rattle.islaris_cli.specs.ProofFormSpelling.{item_words, body_words, head_words, code_words, exit_words, block_words, tail_words, spelling, AreNames}
 use Rattle.islaris_cli.proofs.ProofFormItems.{item_five}

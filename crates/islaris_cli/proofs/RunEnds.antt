@@ -1,7 +1,7 @@
 -- What the run of constants stands on.
-use Rattle.std.proofs.Common.{◌≡◌, ℕ, zero, suc, ◌-◌, ◌<◌, List, [], ◌∷◌, length, map, drop, sym, ap, ◌∙◌, subst, arith, All, Some, length-drop}
+use Rattle.std.proofs.Common.{◌≡◌, ℕ, ◌<◌, List, [], ◌∷◌, length, map, sym, ap, ◌∙◌, subst, arith, All, Some}
 use Rattle.std.specs.Prelude.{slice_set, slice_get, slice_index_or}
-use Rattle.std.proofs.lemmas.List.{length-map, length-take, get_or-map}
+use Rattle.std.proofs.lemmas.List.{length-map, get_or-map}
 use Rattle.std.proofs.lemmas.List.Elements.{All-head, All-tail, All-cons, All-nil, All-weaker}
 use Rattle.std.proofs.lemmas.Option.{get_or_from_slice_get, slice_get_within}
 use Rattle.bv_bits.specs.declared.Bits.{Bits}
@@ -9,14 +9,12 @@ use Rattle.bv_bits.specs.Bits.{width_of}
 use Rattle.state_core.specs.State.{State, Memory, register_of, widths_of, zero_of}
 use Rattle.state_core.specs.World.{World, start}
 use Rattle.machine_core.specs.Machine.{Machine}
-use Rattle.machine_core.specs.First.{Constants, end_of, Walked, walk_from}
+use Rattle.machine_core.specs.First.{Constants, Walked, walk_from}
 use Rattle.islaris_cli.specs.declared.run_form.RunEnd.{RunEnd}
 use Rattle.islaris_cli.specs.declared.run_form.Walk.TheVariants as walk
 use Rattle.islaris_cli.specs.declared.run_form.RunEnd.TheVariants as run_end
 use Rattle.islaris_cli.specs.declared.proof_form_places.PlacedValue.{PlacedValue}
-use Rattle.islaris_cli.specs.declared.proof_form_constants.ConstantsData.{ConstantsData}
 use Rattle.islaris_cli.specs.ProofFormPlaces.{IsPlaced, pair_of}
-use Rattle.islaris_cli.specs.ProofFormConditions.{IsInside, constants_of, image_start}
 use Rattle.islaris_cli.specs.RunForm.{Fits, IsWalked, left_end, ended_at, entry_state, run_end_of, most_instructions}
 use Rattle.islaris_cli.proofs.EntryState.{zero_widths, kept_width}
 
@@ -59,17 +57,6 @@ are_there s ws pc (v ∷ vs) is h =
     let one = (All-head (IsPlaced ws pc) (pair_of v) (map pair_of vs) h).there in
     All-cons (λ v. v.register < length s.registers) v vs (omega (arith, size, same, one))
     (are_there s ws pc vs is (All-tail (IsPlaced ws pc) (pair_of v) (map pair_of vs) h))
-
--- the address behind the code
-pub code_ends : (c : ConstantsData) (image : List ℕ) → IsInside (length image) c → end_of (constants_of c image) ≡ c.hi
-code_ends c image inside =
-    let a = length-take (c.hi - image_start - (c.lo - image_start)) (drop (c.lo - image_start) image) in
-    let b = length-drop (c.lo - image_start) image in
-    let first = inside.first in
-    let last = inside.last in
-    let entered = inside.entered in
-    let entry = inside.entry in
-    omega (arith, a, b, first, last, entered, entry)
 
 pub run_ends : (m : Machine) (c : Constants) (end : RunEnd) (walked : Walked × World) → walked ≡ walk_from m c 0 c.entry_at most_instructions (start (entry_state m c) [])
     → end ≡ ended_at m c walked.0 walked.1 → end ≡ run_end_of m c

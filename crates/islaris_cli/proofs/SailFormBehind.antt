@@ -1,13 +1,11 @@
 -- Words spelled out one behind the other.
-use Rattle.std.proofs.Common.{◌≡◌, ◌==◌, ℕ, suc, ◌+◌, Bool, true, false, ◌&&◌, if◌then◌else◌, List, [], ◌∷◌, ◌++◌, length, Some, None, refl, ap, arith, eq-eqb, bytes_eq}
-use Rattle.std.proofs.lemmas.Slice.Eq.{bytes_eq-Decides}
-use Rattle.lex_core.specs.Classes.{Text}
+use Rattle.std.proofs.Common.{◌≡◌, ◌==◌, suc, ◌+◌, Bool, true, false, ◌&&◌, if◌then◌else◌, List, [], ◌∷◌, ◌++◌, length, Some, None, refl, ap, arith}
 use Rattle.islaris_cli.specs.declared.sail_form.words.Word.{Word}
 use Rattle.islaris_cli.specs.SailFormReading.{place}
 use Rattle.islaris_cli.specs.SailFormSpelled.{Spelled, fits, after, is_same, is_at}
 use Rattle.islaris_cli.specs.SailFormSpelling.{placed}
 use Rattle.std.proofs.lemmas.Option.{same_Some}
-use Rattle.islaris_cli.proofs.SmallLemmas.{bytes_itself, number_itself}
+use Rattle.islaris_cli.proofs.SmallLemmas.{number_itself}
 
 -- ---- one list of words, and then another
 

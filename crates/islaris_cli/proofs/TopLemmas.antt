@@ -202,7 +202,7 @@ accepted_in words r w status text is grown (inr (inl said)) = record {
   proof = said.judged.proof;
   report = text;
   read = said.judged.read;
-  accepted = accepting said.it said.judged.sail said.judged.image said.judged.proof text said.judged.read.image_read.within
+  accepted = accepting said.it said.judged.sail said.judged.image said.judged.proof text
       (said.judged.judged ∙ said_accept said.said (sym (ap number_of said.status_is) ∙ is) ∙ ap (λ t. accept t) (sym said.text_is));
   grown = grown;
 }

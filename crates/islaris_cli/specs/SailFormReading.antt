@@ -1,5 +1,5 @@
 -- Reading from the front of a list of words: a value, and the words that are left behind it.
-use Rattle.std.specs.Prelude.{◌≡◌, ℕ, zero, suc, Bool, true, false, if◌then◌else◌, ◌==◌, List, [], ◌∷◌, length, map, Option, Some, None, option_and_then}
+use Rattle.std.specs.Prelude.{◌≡◌, ℕ, zero, suc, Bool, true, false, if◌then◌else◌, ◌==◌, List, [], ◌∷◌, length, map, Option, Some, None}
 use Rattle.std.specs.Option.{option_map}
 use Rattle.lex_core.specs.Classes.{Text}
 use Rattle.islaris_cli.specs.declared.sail_form.words.Meaning.{Meaning}

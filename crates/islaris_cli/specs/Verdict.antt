@@ -1,7 +1,12 @@
 -- What a check says of three texts: the one answer that they have.
-use Rattle.std.specs.Prelude.{ℕ, Bool, ◌++◌, List, [], ◌∷◌, codes, length, take, bytes_eq, Option, Some, None, if◌then◌else◌}
+use Rattle.std.specs.Prelude.{ℕ, ◌++◌, List, [], ◌∷◌, codes, length, Option, Some, None, Result, Ok, Err, if◌then◌else◌}
 use Rattle.std.specs.Option.{option_map}
 use Rattle.std.specs.Fmt.{decimal}
+use Rattle.std.specs.List.{concat}
+use Rattle.state_core.specs.State.{Memory}
+use Rattle.elf_image.specs.declared.fault.ImageFault.{ImageFault}
+use Rattle.elf_image.specs.declared.fault.ImageFault.TheVariants as fault
+use Rattle.elf_image.specs.Image.{Image, image_of}
 use Rattle.sail_syntax.specs.Program.{Definition, registers_of}
 use Rattle.sail_eval.specs.Typing.{has_instr}
 use Rattle.machine_core.specs.Program.{machine_of}
@@ -19,7 +24,7 @@ use Rattle.islaris_cli.specs.SailForm.{sail_form}
 use Rattle.islaris_cli.specs.Binding.{◌>>=◌}
 use Rattle.islaris_cli.specs.ProofForm.{proof_form}
 use Rattle.islaris_cli.specs.ProofFormPlaces.{places}
-use Rattle.islaris_cli.specs.ProofFormConditions.{constants, constants_of}
+use Rattle.islaris_cli.specs.ProofFormConditions.{code_in, constants, constants_of}
 use Rattle.islaris_cli.specs.RunForm.{run_end_of}
 
 -- the names of the Sail text, the image and the proof file
@@ -49,6 +54,25 @@ not_yet name = bad_input (on_file_text (codes "input") 57 name (codes "0"))
 abbrev pub no_function : Text → Verdict
 no_function name = bad_input (on_file_text (codes "input") 13 name [])
 
+-- the file is no image, by this number and with these fields
+abbrev pub bad_image : Text → ℕ → Text → Verdict
+bad_image name number fields = bad_input (on_file_text (codes "input") number name fields)
+
+-- the segments of the file have too many bytes
+abbrev pub too_large : Text → Verdict
+too_large name = beyond (on_file_text (codes "limit") 22 name [])
+
+-- the file is no image, by its first refusal; want of memory is none that a file has
+abbrev pub no_image : Text → ImageFault → Verdict
+no_image name (fault.Truncated at) = bad_image name 16 (decimal at)
+no_image name fault.Class = bad_image name 17 []
+no_image name fault.Order = bad_image name 18 []
+no_image name fault.Kind = bad_image name 19 []
+no_image name (fault.Overlap i j) = bad_image name 20 (concat (decimal i ∷ codes " " ∷ decimal j ∷ []))
+no_image name (fault.Range i) = bad_image name 21 (decimal i)
+no_image name fault.TooLarge = too_large name
+no_image name fault.NoMemory = too_large name
+
 -- the text is no proof file, which shows at this place
 abbrev pub no_proof : Text → ℕ → Verdict
 no_proof name at = bad_input (on_file_text (codes "input") 39 name (decimal at))
@@ -73,12 +97,13 @@ on_end p (run_end.TooMany pc) = beyond (on_run_text (codes "limit") 46 p.spec p.
 
 -- ---- the check
 
--- the constants of a proof over a program and a raw image, where its conditions hold
-unfoldable pub constants_for : List Definition → NamedProof → Text → Option Constants
-constants_for defs p image =
+-- the constants of a proof over a program and the memory of an image, where its conditions hold
+unfoldable pub constants_for : List Definition → NamedProof → Memory → Option Constants
+constants_for defs p memory =
     places (registers_of defs) (machine_of defs).pc p.entry >>= λ entry.
     places (registers_of defs) (machine_of defs).pc p.wanted >>= λ wanted.
-    option_map (λ c. constants_of c image) (constants p entry wanted (length (registers_of defs)) (machine_of defs).pc (length image))
+    constants p entry wanted (length (registers_of defs)) (machine_of defs).pc >>= λ c.
+    option_map (constants_of c) (code_in memory c.lo c.hi)
 
 -- with the constants, or without
 abbrev pub on_constants : Row → List Definition → NamedProof → Option Constants → Verdict
@@ -86,23 +111,20 @@ on_constants row defs p None = not_yet row.proof
 on_constants row defs p (Some c) = on_end p (run_end_of (machine_of defs) c)
 
 -- with what the proof file is
-abbrev pub on_proof : Row → List Definition → Text → ReadProof → Verdict
-on_proof row defs image (read.NoProof at) = no_proof row.proof at
-on_proof row defs image read.Outside = not_yet row.proof
-on_proof row defs image (read.Read p) = on_constants row defs p (constants_for defs p image)
+abbrev pub on_proof : Row → List Definition → Memory → ReadProof → Verdict
+on_proof row defs memory (read.NoProof at) = no_proof row.proof at
+on_proof row defs memory read.Outside = not_yet row.proof
+on_proof row defs memory (read.Read p) = on_constants row defs p (constants_for defs p memory)
 
--- an image that begins as an ELF file does
-abbrev pub is_elf : Text → Bool
-is_elf image = bytes_eq (take 4 image) (127 ∷ 69 ∷ 76 ∷ 70 ∷ [])
-
--- with a program that has the function
-abbrev pub on_image : Row → List Definition → Text → Text → Verdict
-on_image row defs image proof = if is_elf image then not_yet row.image else on_proof row defs image (proof_form proof)
+-- with a program that has the function, and what the image is
+abbrev pub on_image : Row → List Definition → Text → Result Image ImageFault → Verdict
+on_image row defs proof (Err f) = no_image row.image f
+on_image row defs proof (Ok i) = on_proof row defs i.memory (proof_form proof)
 
 -- with the program, where the Sail text is of its form
 abbrev pub on_program : Row → Text → Text → Option (List Definition) → Verdict
 on_program row image proof None = not_yet row.sail
-on_program row image proof (Some defs) = if has_instr defs then on_image row defs image proof else no_function row.sail
+on_program row image proof (Some defs) = if has_instr defs then on_image row defs proof (image_of image) else no_function row.sail
 
 -- what is said of the three texts in files of these names
 unfoldable pub verdict : Row → Text → Text → Text → Verdict

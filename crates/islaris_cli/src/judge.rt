@@ -1,7 +1,9 @@
 //! What is said of three texts.
 
-ghost use Rattle.std.specs.Prelude.{◌≡◌, ◌<◌, ◌^◌, ◌++◌, length, IfOk, OnOk, Some, codes};
+ghost use Rattle.std.specs.Prelude.{◌≡◌, ◌≢◌, ◌<◌, ◌^◌, ◌++◌, length, IfOk, OnOk, Some, codes};
 ghost use Rattle.std.specs.Fmt.{decimal};
+ghost use Rattle.elf_image.specs.Image.{image_of};
+ghost use Rattle.elf_image.specs.declared.fault.ImageFault.TheVariants as fault_is;
 ghost use Rattle.sail_syntax.specs.View.{program_of};
 ghost use Rattle.sail_eval.specs.Typing.{HasWidths, IsCountable};
 ghost use Rattle.sail_eval.specs.Quiet.{IsQuietProgram};
@@ -13,12 +15,14 @@ ghost use Rattle.islaris_cli.specs.Verdict as spec;
 ghost use Rattle.islaris_cli.specs.Verdict.{verdict, verdict_of, row_named};
 ghost use Rattle.islaris_cli.specs.Texts.{on_run_text};
 
+use crate::code::code_of;
 use crate::proof_form::{NamedProof, ReadProof, read_proof};
 use crate::proof_form_constants::{ConstantsData, constants};
 use crate::proof_form_places::place_registers;
 use crate::run_form::{RunEnd, run_constants};
 use crate::sail_form::read_sail;
 use crate::texts::{Block, Exit, SpecReport, address, decimal, join, on_file, on_run, report};
+use elf_image::{Image, ImageFault, load};
 use lex_core::NoMemory;
 use sail_eval::{TypeFault, Typed, check};
 use sail_syntax::Program;
@@ -27,6 +31,20 @@ use std::alloc::Global;
 
 /// The numbers of refusals and limits.
 const NO_FUNCTION: u32 = 13;
+
+const TRUNCATED: u32 = 16;
+
+const CLASS: u32 = 17;
+
+const ORDER: u32 = 18;
+
+const KIND: u32 = 19;
+
+const OVERLAP: u32 = 20;
+
+const RANGE: u32 = 21;
+
+const TOO_LARGE: u32 = 22;
 
 const NO_PROOF: u32 = 39;
 
@@ -75,6 +93,55 @@ fn no_function(alloc: Global, name: &str) -> Result<Answer, NoMemory>
 {
     let text = on_file(alloc, b"input", NO_FUNCTION, name.as_bytes(), b"")?;
     Ok(Answer::BadInput(text))
+}
+
+/// The file is no image, by this number and with these fields.
+fn bad_image(alloc: Global, name: &str, number: u32, fields: &[u8]) -> Result<Answer, NoMemory>
+    ensures { IfOk result (λ a. verdict_of a ≡ spec.bad_image name.now number fields.now) }
+{
+    let text = on_file(alloc, b"input", number, name.as_bytes(), fields)?;
+    Ok(Answer::BadInput(text))
+}
+
+/// The segments of the file have too many bytes.
+fn too_large(alloc: Global, name: &str) -> Result<Answer, NoMemory>
+    ensures { IfOk result (λ a. verdict_of a ≡ spec.too_large name.now) }
+{
+    let text = on_file(alloc, b"limit", TOO_LARGE, name.as_bytes(), b"")?;
+    Ok(Answer::Beyond(text))
+}
+
+/// Two segments of the file share an address.
+fn overlap(alloc: Global, name: &str, first: u32, second: u32) -> Result<Answer, NoMemory>
+    ensures { IfOk result (λ a. verdict_of a ≡ spec.no_image name.now (ImageFault.Overlap first second)) }
+{
+    let first = decimal(alloc, first as u64)?;
+    let second = decimal(alloc, second as u64)?;
+    let fields = join(alloc, &[&first, b" ", &second])?;
+    bad_image(alloc, name, OVERLAP, &fields)
+}
+
+/// The file is no image, by its first refusal.
+fn no_image(alloc: Global, name: &str, fault: ImageFault) -> Result<Answer, NoMemory>
+    ensures said { IfOk result (λ a. verdict_of a ≡ spec.no_image name.now fault) }
+    ensures wanting { IfOk result (λ _. fault ≢ fault_is.NoMemory) }
+{
+    match fault {
+        ImageFault::Truncated { at } => {
+            let place = decimal(alloc, at)?;
+            bad_image(alloc, name, TRUNCATED, &place)
+        }
+        ImageFault::Class => bad_image(alloc, name, CLASS, b""),
+        ImageFault::Order => bad_image(alloc, name, ORDER, b""),
+        ImageFault::Kind => bad_image(alloc, name, KIND, b""),
+        ImageFault::Overlap { i, j } => overlap(alloc, name, i, j),
+        ImageFault::Range { i } => {
+            let segment = decimal(alloc, i as u64)?;
+            bad_image(alloc, name, RANGE, &segment)
+        }
+        ImageFault::TooLarge => too_large(alloc, name),
+        ImageFault::NoMemory => Err(NoMemory),
+    }
 }
 
 /// The text is no proof file, which shows at this place.
@@ -167,14 +234,14 @@ fn judge_proof(
     alloc: Global,
     row: &Names<'_>,
     typed: &Typed,
-    image: &[u8],
+    image: &Image,
     proof: &NamedProof,
 ) -> Result<Answer, NoMemory>
     requires widths { HasWidths (program_of typed.now) }
     requires wanted { AreBits proof.now.wanted }
     requires entry { AreBits proof.now.entry }
     ensures { IfOk result (λ a. verdict_of a
-        ≡ spec.on_constants (row_named row.now) (program_of typed.now) proof.now (spec.constants_for (program_of typed.now) proof.now image.now)) }
+        ≡ spec.on_constants (row_named row.now) (program_of typed.now) proof.now (spec.constants_for (program_of typed.now) proof.now image.now.memory)) }
 {
     let registers = typed.registers();
     let pc = typed.pc();
@@ -184,20 +251,31 @@ fn judge_proof(
     let Some(wanted) = place_registers(alloc, registers, pc, proof.wanted.as_slice())? else {
         return not_yet(alloc, row.proof);
     };
-    let Some(given) = constants(proof, entry, wanted, registers.len(), pc, image.len()) else {
+    let Some(given) = constants(proof, entry, wanted, registers.len(), pc) else {
         return not_yet(alloc, row.proof);
     };
-    let end = run_constants(alloc, typed, &given, image)?;
+    let Some(code) = code_of(alloc, image, given.lo, given.hi)? else {
+        return not_yet(alloc, row.proof);
+    };
+    let end = run_constants(alloc, typed, &given, code.as_slice())?;
     on_end(alloc, proof, end)
 }
 
-/// Whether the image begins as an ELF file does.
-fn is_elf(image: &[u8]) -> bool
-    ensures { result ≡ spec.is_elf image.now }
+/// With a program that can be run and an image.
+fn judge_loaded(
+    alloc: Global,
+    row: &Names<'_>,
+    typed: &Typed,
+    image: &Image,
+    proof: &[u8],
+) -> Result<Answer, NoMemory>
+    requires widths { HasWidths (program_of typed.now) }
+    ensures { IfOk result (λ a. verdict_of a ≡ spec.on_proof (row_named row.now) (program_of typed.now) image.now.memory (proof_form proof.now)) }
 {
-    match image {
-        [0x7f, b'E', b'L', b'F', ..] => true,
-        _ => false,
+    match read_proof(alloc, proof)? {
+        ReadProof::NoProof { at } => no_proof(alloc, row.proof, at),
+        ReadProof::Outside => not_yet(alloc, row.proof),
+        ReadProof::Read(proof) => judge_proof(alloc, row, typed, image, &proof),
     }
 }
 
@@ -210,15 +288,11 @@ fn judge_image(
     proof: &[u8],
 ) -> Result<Answer, NoMemory>
     requires widths { HasWidths (program_of typed.now) }
-    ensures { IfOk result (λ a. verdict_of a ≡ spec.on_image (row_named row.now) (program_of typed.now) image.now proof.now) }
+    ensures { IfOk result (λ a. verdict_of a ≡ spec.on_image (row_named row.now) (program_of typed.now) proof.now (image_of image.now)) }
 {
-    if is_elf(image) {
-        return not_yet(alloc, row.image);
-    }
-    match read_proof(alloc, proof)? {
-        ReadProof::NoProof { at } => no_proof(alloc, row.proof, at),
-        ReadProof::Outside => not_yet(alloc, row.proof),
-        ReadProof::Read(proof) => judge_proof(alloc, row, typed, image, &proof),
+    match load(alloc, image) {
+        Ok(image) => judge_loaded(alloc, row, typed, &image, proof),
+        Err(fault) => no_image(alloc, row.image, fault),
     }
 }
 

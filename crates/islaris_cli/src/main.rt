@@ -1,6 +1,7 @@
 //! Verifies machine code: checks a proof file against a Sail text and an image, and prints what it says.
 #![tactic(auto)]
 
+pub mod code;
 pub mod judge;
 pub mod laws;
 pub mod proof_form;

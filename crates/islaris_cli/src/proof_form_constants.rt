@@ -1,17 +1,13 @@
 //! The constants of a run: its code, where it is entered and left, and the registers' values there.
 
-ghost use Rattle.std.specs.Prelude.{◌≡◌, ◌≢◌, ◌<◌, ℕ, true, length, map, IfSome};
+ghost use Rattle.std.specs.Prelude.{◌≡◌, ◌≢◌, ◌<◌, ℕ, true, map, IfSome};
 ghost use Rattle.islaris_cli.specs.ProofFormConditions as spec;
-ghost use Rattle.islaris_cli.specs.ProofFormConditions.{IsInside, constants_of};
-ghost use Rattle.machine_core.specs.First.{end_of};
+ghost use Rattle.islaris_cli.specs.ProofFormConditions.{IsEntered};
 ghost use Rattle.islaris_cli.specs.ProofFormPlaces.{ArePlaced, pair_of, has as has_item};
 
 use crate::proof_form::NamedProof;
 use crate::proof_form_places::{PlacedValue, has};
 use sqlite_items::Items;
-
-/// The address at which the first byte of a raw image lies.
-pub const IMAGE_START: u64 = 0x8000_0000;
 
 /// The constants of a run. Addresses are in bytes.
 #[derive(Debug, Drop)]
@@ -37,14 +33,11 @@ fn is_in(lo: u64, hi: u64, at: u64) -> bool
     lo <= at && at < hi
 }
 
-/// Whether the code is entered inside and left outside, and all of it is in an image of this length.
-fn is_inside(proof: &NamedProof, image_len: usize) -> bool
-    ensures { result ≡ spec.is_inside proof.now image_len }
+/// Whether the code is entered inside and left outside.
+fn is_entered(proof: &NamedProof) -> bool
+    ensures { result ≡ spec.is_entered proof.now }
 {
-    if !is_in(proof.lo, proof.hi, proof.entry_at) || is_in(proof.lo, proof.hi, proof.exit_at) {
-        return false;
-    }
-    IMAGE_START <= proof.lo && proof.hi - IMAGE_START <= image_len as u64
+    is_in(proof.lo, proof.hi, proof.entry_at) && !is_in(proof.lo, proof.hi, proof.exit_at)
 }
 
 /// Whether each of so many registers but `pc` has a value.
@@ -60,10 +53,9 @@ fn covers(registers: usize, pc: usize, values: &[PlacedValue]) -> bool
     true
 }
 
-/// The constants of a proof for a raw image of so many bytes, where its registers are placed: `entry` where the code is
-/// entered, `exit` where it is left. `registers` is how many registers there are, and `pc` the number of the program
-/// counter. None if the exit is in the code, the entry isn't, a byte of the code isn't in the image, or a register
-/// other than `pc` has no value at the entry.
+/// The constants of a proof, where its registers are placed: `entry` where the code is entered, `exit` where it is left.
+/// `registers` is how many registers there are, and `pc` the number of the program counter. None if the exit is in the
+/// code, the entry isn't, or a register other than `pc` has no value at the entry.
 #[tactic(auto, unfolding(crate::specs::ProofFormConditions::constants))]
 pub fn constants(
     proof: &NamedProof,
@@ -71,15 +63,14 @@ pub fn constants(
     exit: Items<PlacedValue>,
     registers: usize,
     pc: usize,
-    image_len: usize,
 ) -> Option<ConstantsData>
-    ensures exact { result ≡ spec.constants proof.now entry exit registers pc image_len }
-    ensures inside { IfSome result (IsInside image_len) }
+    ensures exact { result ≡ spec.constants proof.now entry exit registers pc }
+    ensures entered { IfSome result IsEntered }
     ensures full { IfSome result (λ c. (k : ℕ) → k < registers → k ≢ pc → has_item c.entry k ≡ true) }
     ensures placed { (widths : _) → ArePlaced widths pc (map pair_of entry) → ArePlaced widths pc (map pair_of exit)
         → IfSome result (λ c. ArePlaced widths pc (map pair_of c.entry) × ArePlaced widths pc (map pair_of c.exit)) }
 {
-    if !is_inside(proof, image_len) || !covers(registers, pc, entry.as_slice()) {
+    if !is_entered(proof) || !covers(registers, pc, entry.as_slice()) {
         return None;
     }
     Some(ConstantsData {
@@ -90,17 +81,4 @@ pub fn constants(
         exit_at: proof.exit_at,
         exit,
     })
-}
-
-impl ConstantsData {
-    /// The bytes of the code in the image.
-    pub fn code<'a>(&self, image: &'a [u8]) -> &'a [u8]
-        requires { IsInside (length image.now) self.now }
-        ensures value { result.now ≡ (constants_of self.now image.now).code }
-        ensures end { end_of (constants_of self.now image.now) ≡ self.now.hi }
-    {
-        let from = (self.lo - IMAGE_START) as usize;
-        let to = (self.hi - IMAGE_START) as usize;
-        &image[from..to]
-    }
 }

@@ -11,7 +11,7 @@ ghost use Rattle.machine_core.specs.First.{Constants, end_of, walk_from};
 ghost use Rattle.machine_core.specs.First as first;
 ghost use Rattle.machine_core.specs.Machine.{pc_of};
 ghost use Rattle.machine_core.specs.Program.{machine_of};
-ghost use Rattle.islaris_cli.specs.ProofFormConditions.{IsInside, constants_of};
+ghost use Rattle.islaris_cli.specs.ProofFormConditions.{constants_of};
 ghost use Rattle.islaris_cli.specs.ProofFormPlaces.{ArePlaced, pair_of};
 ghost use Rattle.islaris_cli.specs.RunForm as spec;
 ghost use Rattle.islaris_cli.specs.RunForm.{IsWalked, run_end_of, most_instructions};
@@ -94,12 +94,12 @@ fn entry_state(
     alloc: Global,
     typed: &Typed,
     given: &ConstantsData,
-    image: &[u8],
+    code: &[u8],
 ) -> Result<State, NoMemory>
     requires widths { HasWidths (program_of typed.now) }
-    requires inside { IsInside (length image.now) given.now }
+    requires size { given.now.lo + length code.now ≡ given.now.hi }
     requires entry { ArePlaced (widths_in (program_of typed.now)) (machine_of (program_of typed.now)).pc (map pair_of given.now.entry) }
-    ensures value { IfOk result (λ s. s ≡ spec.entry_state (machine_of (program_of typed.now)) (constants_of given.now image.now)) }
+    ensures value { IfOk result (λ s. s ≡ spec.entry_state (machine_of (program_of typed.now)) (constants_of given.now code.now)) }
     ensures widths { IfOk result (λ s. widths_of s ≡ widths_in (program_of typed.now)) }
 {
     let widths = widths(alloc, typed.registers())?;
@@ -107,7 +107,8 @@ fn entry_state(
     set_values(&mut state, given.entry.as_slice());
     let value = u128::from(given.entry_at);
     state.set_reg(typed.pc(), Bits { width: 64, value });
-    add_bytes(&mut state, given.lo, given.code(image))?;
+    prove!(given.lo <= given.hi);
+    add_bytes(&mut state, given.lo, code)?;
     Ok(state)
 }
 
@@ -223,20 +224,20 @@ fn end_of_walk(typed: &Typed, given: &ConstantsData, state: &State, walk: Walk) 
 }
 
 /// Runs a specification over constants from the one state that its entry and its code give, at most 4,096 instructions.
-/// `NoMemory` comes for want of memory alone.
+/// `code` has the bytes from `given.lo` up to below `given.hi`. `NoMemory` comes for want of memory alone.
 pub fn run_constants(
     alloc: Global,
     typed: &Typed,
     given: &ConstantsData,
-    image: &[u8],
+    code: &[u8],
 ) -> Result<RunEnd, NoMemory>
     requires widths { HasWidths (program_of typed.now) }
-    requires inside { IsInside (length image.now) given.now }
+    requires size { given.now.lo + length code.now ≡ given.now.hi }
     requires entry { ArePlaced (widths_in (program_of typed.now)) (machine_of (program_of typed.now)).pc (map pair_of given.now.entry) }
     requires exit { ArePlaced (widths_in (program_of typed.now)) (machine_of (program_of typed.now)).pc (map pair_of given.now.exit) }
-    ensures { IfOk result (λ end. end ≡ run_end_of (machine_of (program_of typed.now)) (constants_of given.now image.now)) }
+    ensures { IfOk result (λ end. end ≡ run_end_of (machine_of (program_of typed.now)) (constants_of given.now code.now)) }
 {
-    let mut state = entry_state(alloc, typed, given, image)?;
+    let mut state = entry_state(alloc, typed, given, code)?;
     let walk = run_on(alloc, typed, given, &mut state)?;
     Ok(end_of_walk(typed, given, &state, walk))
 }

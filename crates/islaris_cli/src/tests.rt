@@ -1,6 +1,7 @@
 //! Texts and whole checks, worked out by hand.
 
 mod checks;
+mod images;
 mod printed;
 mod proofs;
 mod sails;

@@ -6,7 +6,7 @@ use lex_core::{Name, NoMemory};
 use std::alloc::Global;
 use std::test::Fail;
 
-const SAIL: &[u8] = b"default Order dec
+pub const SAIL: &[u8] = b"default Order dec
 register PC : bits(64)
 register x10 : bits(64)
 function instr(op : bits(32)) -> unit = match op {
@@ -15,7 +15,7 @@ function instr(op : bits(32)) -> unit = match op {
 ";
 
 /// `addi x10, x10, 1`.
-const WORD: &[u8] = &[0x13, 0x05, 0x15, 0x00];
+pub const WORD: &[u8] = &[0x13, 0x05, 0x15, 0x00];
 
 /// The word of another instruction.
 const OTHER_WORD: &[u8] = &[0x13, 0x01, 0x11, 0x00];
@@ -24,14 +24,14 @@ const CHECK: &[&str] = &["check", "mini.sail", "inc.bin", "inc.ipf"];
 
 const USAGE: &[u8] = b"words\nusage: islaris check SAIL IMAGE PROOF\n";
 
-const REPORT: &[u8] = b"accepted
+pub const REPORT: &[u8] = b"accepted
 spec inc no sample
 exit out 0x0000000080000004
 block entry 0x0000000080000000 instructions 1 certificates 0
 ";
 
 /// The proof file of a code range from 0x80000000 on, with an exit and the value of x10 there; x10 is 0x41 at the entry.
-fn proof(alloc: Global, hi: u64, exit_at: u64, value: u64) -> Result<Vec<u8>, NoMemory> {
+pub fn proof(alloc: Global, hi: u64, exit_at: u64, value: u64) -> Result<Vec<u8>, NoMemory> {
     let text = format!(in alloc;
         "islaris_proof 1
 spec inc {{
@@ -80,7 +80,7 @@ fn answer<F: Files, S: Sink>(
 }
 
 /// Whether the program answers this number to these words, and writes this text.
-fn answers(
+pub fn answers(
     alloc: Global,
     words: &[&str],
     files: Vec<File>,
@@ -167,7 +167,7 @@ fn inputs(rt: HostRuntime) -> Result<(), Fail> {
         ),
         (b"// no comments", WORD, b"", b"input 57 mini.sail 0\n"),
         (b"\"", WORD, &proof, b"input 57 mini.sail 0\n"),
-        (SAIL, b"\x7fELF", b"", b"input 57 inc.bin 0\n"),
+        (SAIL, b"\x7fELF", b"", b"input 16 inc.bin 4\n"),
         (SAIL, WORD, b"", b"input 39 inc.ipf 0\n"),
         (SAIL, WORD, b"// nothing\n", b"input 39 inc.ipf 11\n"),
         (SAIL, WORD, b" spec", b"input 39 inc.ipf 1\n"),
@@ -226,7 +226,10 @@ fn faults_and_words(rt: HostRuntime) -> Result<(), Fail> {
     let mut narrow = MemSink::new(alloc, 10, vec![in alloc; 1]?)?;
     assert_eq!(rt; answer(alloc, CHECK, &mut held, &mut narrow)?, 6);
     assert_eq!(rt; narrow.bytes(), b"accepted\ns".as_slice());
-    let rows: [(&[&str], u8, &[u8]); 7] = [
+    let mut two = increment(alloc)?;
+    two.pop();
+    assert!(rt; gives(alloc, two, 4, b"missing inc.ipf\n")?);
+    let rows: [(&[&str], u8, &[u8]); 8] = [
         (
             &["check", "mini.sail", "inc.bin", "other.ipf"],
             4,
@@ -235,6 +238,7 @@ fn faults_and_words(rt: HostRuntime) -> Result<(), Fail> {
         (&[], 2, USAGE),
         (&["-h"], 2, USAGE),
         (&["check", "mini.sail"], 2, USAGE),
+        (&["check", "mini.sail", "inc.bin"], 2, USAGE),
         (&["check", "mini.sail", "inc.bin", "-inc.ipf"], 2, USAGE),
         (
             &["check", "mini.sail", "inc.bin", "inc.ipf", "more"],

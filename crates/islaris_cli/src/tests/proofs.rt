@@ -1,7 +1,9 @@
+use crate::code::code_of;
 use crate::proof_form::{NamedProof, NamedValue, ReadProof, read_proof};
 use crate::proof_form_constants::{ConstantsData, constants};
 use crate::proof_form_places::{PlacedValue, place_registers};
 use bv_bits::Bits;
+use elf_image::load;
 use lex_core::{Name, NoMemory, RegDecl};
 use sqlite_items::Items;
 use std::alloc::Global;
@@ -222,7 +224,6 @@ fn constants_of(
     alloc: Global,
     text: &[u8],
     registers: usize,
-    image_len: usize,
 ) -> Result<Option<ConstantsData>, Fail> {
     let proof = proof_of(alloc, text)?;
     let value = Bits {
@@ -232,16 +233,15 @@ fn constants_of(
     let one = [PlacedValue { register: 1, value }];
     let entry = Items::from_slice(alloc, one.as_slice())?;
     let exit = Items::new(alloc);
-    Ok(constants(&proof, entry, exit, registers, 0, image_len))
+    Ok(constants(&proof, entry, exit, registers, 0))
 }
 
 /// Changes of the text that take its constants.
-const NO_CONSTANTS: [(&[u8], &[u8]); 7] = [
+const NO_CONSTANTS: [(&[u8], &[u8]); 6] = [
     (b"0x0000000080000004", b"0x0000000080000003"),
     (b"0x0000000080000004", b"0x0000000080000000"),
     (b"entry at 0x80000000", b"entry at 0x80000004"),
     (b"entry at 0x80000000", b"entry at 0x7fffffff"),
-    (b"code 0x80000000", b"code 0x7fffffff"),
     (b"0x80000004;", b"0x80000005;"),
     (b"0x80000004;", b"0x80000000;"),
 ];
@@ -251,7 +251,7 @@ const IMAGE: &[u8] = b"\x13\x05\x15\x00\x63";
 
 #[test]
 fn gives_the_constants(rt: HostRuntime) -> Result<(), Fail> {
-    let Some(data) = constants_of(rt.alloc(), INCREMENT, 2, 5)? else {
+    let Some(data) = constants_of(rt.alloc(), INCREMENT, 2)? else {
         return Err(Fail::from("no constants"));
     };
     assert_eq!(rt; data.lo, 0x8000_0000);
@@ -260,18 +260,31 @@ fn gives_the_constants(rt: HostRuntime) -> Result<(), Fail> {
     assert_eq!(rt; data.exit_at, 0x8000_0004);
     assert_eq!(rt; data.entry.len(), 1);
     assert!(rt; data.exit.is_empty());
-    assert!(rt; data.code(IMAGE) == b"\x13\x05\x15\x00".as_slice());
+    Ok(())
+}
+
+#[test]
+fn gives_the_code(rt: HostRuntime) -> Result<(), Fail> {
+    let alloc = rt.alloc();
+    let Ok(image) = load(alloc, IMAGE) else {
+        return Err(Fail::from("no image"));
+    };
+    let Some(code) = code_of(alloc, &image, 0x8000_0000, 0x8000_0004)? else {
+        return Err(Fail::from("no code"));
+    };
+    assert!(rt; code.as_slice() == b"\x13\x05\x15\x00".as_slice());
+    assert!(rt; code_of(alloc, &image, 0x7fff_ffff, 0x8000_0004)?.is_none());
+    assert!(rt; code_of(alloc, &image, 0x8000_0004, 0x8000_0006)?.is_none());
     Ok(())
 }
 
 #[test]
 fn keeps_the_conditions(rt: HostRuntime) -> Result<(), Fail> {
-    assert!(rt; constants_of(rt.alloc(), INCREMENT, 2, 4)?.is_some());
-    assert!(rt; constants_of(rt.alloc(), INCREMENT, 2, 3)?.is_none());
-    assert!(rt; constants_of(rt.alloc(), INCREMENT, 3, 4)?.is_none());
+    assert!(rt; constants_of(rt.alloc(), INCREMENT, 2)?.is_some());
+    assert!(rt; constants_of(rt.alloc(), INCREMENT, 3)?.is_none());
     for (old, new) in NO_CONSTANTS {
         let text = changed(rt.alloc(), old, new)?;
-        assert!(rt; constants_of(rt.alloc(), text.as_slice(), 2, 4)?.is_none());
+        assert!(rt; constants_of(rt.alloc(), text.as_slice(), 2)?.is_none());
     }
     Ok(())
 }

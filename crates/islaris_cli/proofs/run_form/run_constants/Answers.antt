@@ -5,13 +5,13 @@ use Rattle.machine_core.specs.First.{walk_from}
 use Rattle.machine_core.specs.Program.{machine_of}
 use Rattle.islaris_cli.specs.ProofFormConditions.{constants_of}
 use Rattle.islaris_cli.specs.RunForm.{most_instructions}
-use Rattle.islaris_cli.proofs.RunEnds.{run_ends, code_ends}
+use Rattle.islaris_cli.proofs.RunEnds.{run_ends}
 use Rattle.islaris_cli.proofs.run_form.run_constants.Goals as goal
 
 pub returns : goal.returns
 returns c =
     let m = machine_of (program_of c.args.typed.now) in
-    let k = constants_of c.args.given.now c.args.image.now in
+    let k = constants_of c.args.given.now c.args.code.now in
     let walked = walk_from m k 0 k.entry_at most_instructions (start c.in_ok-state.state []) in
     run_ends m k c.end_of_walk.result walked (ap (λ s. walk_from m k 0 k.entry_at most_instructions (start s [])) c.in_ok-state.ensures.value)
-    (c.end_of_walk.ensures k walked refl refl (c.in_ok-walk.ensures.walked k refl (code_ends c.args.given.now c.args.image.now c.requires.inside) refl))
+    (c.end_of_walk.ensures k walked refl refl (c.in_ok-walk.ensures.walked k refl c.requires.size refl))

@@ -1,0 +1,176 @@
+-- What is made of normal terms is normal.
+use Rattle.std.proofs.Common.{◌≡◌, ℕ, suc, ◌≤◌, Bool, true, false, cond, eqb, List, [], ◌∷◌, Option, Some, None, refl, ap, subst, ◌∙◌}
+use Rattle.std.proofs.lemmas.Bool.{le-ltb}
+use Rattle.bv_bits.specs.declared.Op.{Op}
+use Rattle.bv_bits.specs.declared.Op.TheVariants.{Eq, ULt, Ite}
+use Rattle.term_tree.specs.Terms.{Tree, lit, var, one, two, three, sel, ArrayTree, array, upd, splice, applied, height, HIGHEST}
+use Rattle.term_tree.specs.Rules.{Right, given, made_one, made_two, rule_of}
+use Rattle.term_tree.specs.Making.{IsMade, IsBuilt, plain, ruled, stands, builds_one, builds_two, Made, just, asks, make_by, make, select, goes_high, within_height}
+use Rattle.term_tree.specs.Words.{Scope}
+use Rattle.term_tree.specs.Spelling.{Words, Spells, a_literal, a_variable, an_application, a_selection, Arguments, no_more, one_more}
+use Rattle.term_tree.specs.Normal.{IsNormal, normal_literal, normal_variable, normal_one, normal_two, normal_three, normal_selection, HasNormalParts, IsNormalArray}
+use Rattle.term_tree.proofs.Rewrites as rewrite
+use Rattle.term_tree.proofs.Rewrites.{Rewrites}
+use Rattle.term_tree.proofs.RewriteLemmas.{rewrites}
+use Rattle.term_tree.proofs.StepLemmas.{make_steps, is_made}
+
+-- ---- parts of normal terms
+
+of_one : {op : Op} {a : Tree} → IsNormal (one op a) → IsNormal a
+of_one (normal_one e a) = a
+
+first_of_two : {op : Op} {a b : Tree} → IsNormal (two op a b) → IsNormal a
+first_of_two (normal_two e a b) = a
+
+second_of_two : {op : Op} {a b : Tree} → IsNormal (two op a b) → IsNormal b
+second_of_two (normal_two e a b) = b
+
+-- ---- right sides
+
+-- a right side whose terms are normal
+abbrev pub IsNormalRight : Right → Type 0
+IsNormalRight (given t) = IsNormal t
+IsNormalRight (made_one op r) = IsNormalRight r
+IsNormalRight (made_two op r s) = IsNormalRight r × IsNormalRight s
+
+either : (b : Bool) (x y : Tree) → IsNormal x → IsNormal y → IsNormal (cond b x y)
+either true x y h k = h
+either false x y h k = k
+
+rewrites_normal : {t : Tree} {r : Right} → Rewrites t r → HasNormalParts t → IsNormalRight r
+rewrites_normal (rewrite.one_literal op a) h = normal_literal
+rewrites_normal (rewrite.two_literals op a b) h = normal_literal
+rewrites_normal (rewrite.three_literals op a b c) h = normal_literal
+rewrites_normal (rewrite.not_not x) h = of_one h
+rewrites_normal (rewrite.not_relation op p x y e) h = (first_of_two h, second_of_two h)
+rewrites_normal (rewrite.zero_and x y e) h = h.0
+rewrites_normal (rewrite.and_zero x y e) h = h.1
+rewrites_normal (rewrite.ones_and x y e) h = h.1
+rewrites_normal (rewrite.and_ones x y e) h = h.0
+rewrites_normal (rewrite.and_same x y e) h = h.0
+rewrites_normal (rewrite.or_same x y e) h = h.0
+rewrites_normal (rewrite.zero_or x y e) h = h.1
+rewrites_normal (rewrite.or_zero x y e) h = h.0
+rewrites_normal (rewrite.ones_or x y e) h = h.0
+rewrites_normal (rewrite.or_ones x y e) h = h.1
+rewrites_normal (rewrite.zero_xor x y e) h = h.1
+rewrites_normal (rewrite.xor_zero x y e) h = h.0
+rewrites_normal (rewrite.xor_same x y e) h = normal_literal
+rewrites_normal (rewrite.add_turned x y e f) h = (h.1, h.0)
+rewrites_normal (rewrite.add_zero x y e) h = h.0
+rewrites_normal (rewrite.add_literals x c d) h = (first_of_two h.0, normal_literal)
+rewrites_normal (rewrite.add_out_of_second x y c) h = ((h.0, first_of_two h.1), normal_literal)
+rewrites_normal (rewrite.add_out_of_first x y c e) h = ((first_of_two h.0, h.1), normal_literal)
+rewrites_normal (rewrite.sub_literal x c) h = (h.0, normal_literal)
+rewrites_normal (rewrite.sub_same x y e) h = normal_literal
+rewrites_normal (rewrite.sub_left x y z e) h = second_of_two h.0
+rewrites_normal (rewrite.sub_out_of_second x y c) h = ((h.0, first_of_two h.1), normal_literal)
+rewrites_normal (rewrite.sub_out_of_first x y c e) h = ((first_of_two h.0, h.1), normal_literal)
+rewrites_normal (rewrite.zero_mul x y e) h = h.0
+rewrites_normal (rewrite.mul_zero x y e) h = h.1
+rewrites_normal (rewrite.one_mul x y e) h = h.1
+rewrites_normal (rewrite.mul_one x y e) h = h.0
+rewrites_normal (rewrite.shl_zero x y e) h = h.0
+rewrites_normal (rewrite.lshr_zero x y e) h = h.0
+rewrites_normal (rewrite.ashr_zero x y e) h = h.0
+rewrites_normal (rewrite.relation_same op b x y e f) h = normal_literal
+rewrites_normal (rewrite.below_zero x y e) h = normal_literal
+rewrites_normal (rewrite.zero_above x y e) h = normal_literal
+rewrites_normal (rewrite.at_least_zero x y e) h = normal_literal
+rewrites_normal (rewrite.zero_at_most x y e) h = normal_literal
+rewrites_normal (rewrite.extract_all hi lo x e f) h = h
+rewrites_normal (rewrite.extract_extract hi lo i l x) h = of_one h
+rewrites_normal (rewrite.extract_low hi lo x y e) h = second_of_two h
+rewrites_normal (rewrite.extract_high hi lo x y e) h = first_of_two h
+rewrites_normal (rewrite.extract_zext hi lo to x e) h = of_one h
+rewrites_normal (rewrite.zext_own to x e) h = h
+rewrites_normal (rewrite.sext_own to x e) h = h
+rewrites_normal (rewrite.ite_literal t x y) h = either (eqb t.value 1) x y h.1 h.2
+rewrites_normal (rewrite.ite_same t x y e) h = h.1
+
+-- ---- what is made
+
+-- an application that no rule fits
+stays : (t : Tree) → rule_of t ≡ None → HasNormalParts t → IsNormal t
+stays (lit b) e h = normal_literal
+stays (var x w) e h = normal_variable
+stays (one op a) e h = normal_one e h
+stays (two op a b) e h = normal_two e h.0 h.1
+stays (three op a b c) e h = normal_three e h.0 h.1 h.2
+stays (sel f i) e h = normal_selection h
+
+mutual
+  made_normal : {t u : Tree} → IsMade t u → HasNormalParts t → IsNormal u
+  made_normal (plain {t = t} e) h = stays t e h
+  made_normal (ruled {t = t} {r = r} e b) h = built_normal b (rewrites_normal (rewrites t r e) h)
+
+  built_normal : {r : Right} {u : Tree} → IsBuilt r u → IsNormalRight r → IsNormal u
+  built_normal stands h = h
+  built_normal (builds_one b m) h = made_normal m (built_normal b h)
+  built_normal (builds_two b c m) h = made_normal m (built_normal b h.0, built_normal c h.1)
+
+pub made_is_normal : (t u : Tree) → HasNormalParts t → IsMade t u → IsNormal u
+made_is_normal t u h m = made_normal m h
+
+-- what make gives
+make_normal : (t : Tree) → HasNormalParts t → IsNormal (make t).it
+make_normal t h = made_normal (is_made t) h
+
+pub selected_normal : (f : ArrayTree) (i : Tree) → IsNormalArray f → IsNormal i → IsNormal (select f i).it
+selected_normal (array f) i h n = normal_selection n
+selected_normal (upd of j e) i h n =
+    make_normal (three Ite (make (two Eq i j)).it e (select of i).it) (make_normal (two Eq i j) (n, h.1), h.2, selected_normal of i h.0 n)
+selected_normal (splice of below j) i h n =
+    make_normal (three Ite (make (two ULt i j)).it (select below i).it (select of i).it) (make_normal (two ULt i j) (n, h.2), selected_normal below i h.1 n, selected_normal of i h.0 n)
+
+-- ---- normal terms are made of themselves
+
+normal_rule : (t : Tree) → IsNormal t → rule_of t ≡ None
+normal_rule t normal_literal = refl
+normal_rule t normal_variable = refl
+normal_rule t (normal_one e a) = e
+normal_rule t (normal_two e a b) = e
+normal_rule t (normal_three e a b c) = e
+normal_rule t (normal_selection i) = refl
+
+alone_within : (t : Tree) → height t ≤ HIGHEST → within_height (asks t (just t)) ≡ Some t
+alone_within t low = rw (le-ltb HIGHEST (height t) low) refl
+
+pub normal_made : (t : Tree) → IsNormal t → height t ≤ HIGHEST → within_height (make t) ≡ Some t
+normal_made t n low = ap (λ (m : Made Tree). within_height m) (make_steps t ∙ ap (make_by make t) (normal_rule t n)) ∙ alone_within t low
+
+-- ---- what is spelled is normal
+
+some_of : (b : Bool) (u t : Tree) → cond b None (Some u) ≡ Some t → u ≡ t
+some_of true u t e = absurd (let f : ◌≡◌ {A = Option Tree} None (Some t) = e in cc)
+some_of false u t e = let f : ◌≡◌ {A = Option Tree} (Some u) (Some t) = e in cc
+
+pub within_is : (m : Made Tree) (t : Tree) → within_height m ≡ Some t → m.it ≡ t
+within_is m t e = some_of (goes_high m) m.it t e
+
+AreNormal : List Tree → Type 0
+AreNormal [] = Unit {0}
+AreNormal (t ∷ ts) = IsNormal t × AreNormal ts
+
+parts_normal : (op : Op) (ts : List Tree) → AreNormal ts → HasNormalParts (applied op ts)
+unfolding AreNormal
+parts_normal op [] h = tt
+parts_normal op (a ∷ []) h = h.0
+parts_normal op (a ∷ b ∷ []) h = (h.0, h.1.0)
+parts_normal op (a ∷ b ∷ c ∷ []) h = (h.0, h.1.0, h.1.1.0)
+parts_normal op (a ∷ b ∷ c ∷ d ∷ ts) h = tt
+
+mutual
+  unfolding AreNormal
+
+  pub spelled_normal : (scope : Scope) (n : ℕ) (ws r : Words) (t : Tree) → Spells scope n ws t r → IsNormal t
+  spelled_normal scope n ws r t a_literal = normal_literal
+  spelled_normal scope n ws r t (a_variable e) = normal_variable
+  spelled_normal scope (suc n) ws r t (an_application {op = op} {ws' = bs} {ts = ts} heads args fits made) =
+      subst IsNormal (within_is (make (applied op ts)) t made) (make_normal (applied op ts) (parts_normal op ts (arguments_normal scope n _ bs ts _ args)))
+  spelled_normal scope (suc n) ws r t (a_selection {f = f} {ws = inside} {i = i} e inner fits made) =
+      subst IsNormal (within_is (select (array f) i) t made) (normal_selection (spelled_normal scope n inside _ i inner))
+
+  arguments_normal : (scope : Scope) (n c : ℕ) (ws : Words) (ts : List Tree) (r : Words) → Arguments scope n c ws ts r → AreNormal ts
+  arguments_normal scope n c ws ts r no_more = tt
+  arguments_normal scope n (suc c) ws ts r (one_more {r = q} {t = t} {ts = us} first more) = (spelled_normal scope n ws q t first, arguments_normal scope n c q us r more)

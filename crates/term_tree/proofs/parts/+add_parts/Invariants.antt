@@ -1,0 +1,6 @@
+use Rattle.term_tree.specs.Making.{size}
+use Rattle.term_tree.specs.View.{tree}
+use Rattle.term_tree.proofs.parts.+add_parts.Given as goal
+
+abbrev pub decreases-add_parts : goal.decreases-add_parts
+decreases-add_parts l = size (tree l.term.now)

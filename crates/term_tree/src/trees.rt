@@ -1,0 +1,315 @@
+// Terms as trees: their tops, widths and heights, whether two are the same, and copies.
+
+ghost use Rattle.std.specs.Prelude.{◌≡◌, ◌≤◌, [], ◌∷◌, map, All, IfOk};
+ghost use Rattle.bv_bits.specs.Bits.{result_width_of};
+ghost use Rattle.term_tree.specs.Terms.{Tree, IsTyped, IsTypedArray, width_of, height, same_op, same_tree, applied, HIGHEST};
+ghost use Rattle.term_tree.specs.View.{tree, array_tree};
+ghost use Rattle.term_tree.specs.Forms.{IsForm};
+ghost use Rattle.term_tree.specs.ArrayForms.{IsArrayForm};
+
+use crate::rules::{Nodes, Shape};
+use crate::term::{ArrayTerm, Term};
+use bv_bits::{Bits, Op};
+use lex_core::{Name, NoMemory};
+use sqlite_items::{Boxed, Items};
+use std::alloc::Global;
+
+/// Terms that stand for themselves.
+#[derive(Debug, Clone, Copy, Drop)]
+pub struct Trees;
+
+impl<'t> Nodes<&'t Term> for Trees {
+    ghost tree = { λ _ t. tree t.now };
+
+    fn shape(&self, of: &'t Term) -> Shape<&'t Term> {
+        match of {
+            Term::Lit(b) => Shape::Lit(*b),
+            Term::App { op, args } => match args.as_slice() {
+                [a] => Shape::One { op: *op, a },
+                [a, b] => Shape::Two { op: *op, a, b },
+                [_, _, _] => Shape::Other,
+                _ => unreachable!(),
+            },
+            _ => Shape::Other,
+        }
+    }
+
+    fn width(&self, of: &'t Term) -> u32 {
+        width(of)
+    }
+
+    fn same(&self, a: &'t Term, b: &'t Term) -> bool {
+        same(a, b)
+    }
+}
+
+/// The width of a term in bits.
+pub fn width(term: &Term) -> u32
+    requires typed { IsTyped (tree term.now) }
+    ensures width { result ≡ width_of (tree term.now) }
+{
+    match term {
+        Term::Lit(b) => b.width,
+        Term::Var { name: _, width } => *width,
+        Term::App { op, args } => match args.as_slice() {
+            [a] => op.result_width(&[width(a)]).unwrap(),
+            [a, b] => op.result_width(&[width(a), width(b)]).unwrap(),
+            [a, b, c] => op.result_width(&[width(a), width(b), width(c)]).unwrap(),
+            _ => unreachable!(),
+        },
+        Term::Sel { of: _, at: _ } => 8,
+    }
+}
+
+/// Whether two operators are the same.
+pub fn same_op(one: Op, two: Op) -> bool
+    ensures same { result ≡ same_op one two }
+{
+    one == two
+}
+
+/// A term, one form at a time, with its parts.
+#[derive(Debug, Clone, Copy, Drop)]
+pub enum Form<'t> {
+    /// A literal.
+    Lit(Bits),
+    /// A variable.
+    Var {
+        name: &'t Name,
+        width: u32,
+    },
+    /// An operator at one argument.
+    One {
+        op: Op,
+        a: &'t Term,
+    },
+    /// An operator at two arguments.
+    Two {
+        op: Op,
+        a: &'t Term,
+        b: &'t Term,
+    },
+    /// An operator at three arguments.
+    Three {
+        op: Op,
+        a: &'t Term,
+        b: &'t Term,
+        c: &'t Term,
+    },
+    /// The byte of an array variable.
+    Sel {
+        of: &'t Name,
+        at: &'t Term,
+    },
+}
+
+/// The form of a term.
+pub fn form_of<'t>(term: &'t Term) -> Form<'t>
+    requires typed { IsTyped (tree term.now) }
+    ensures form { IsForm (tree term.now) result }
+{
+    match term {
+        Term::Lit(b) => Form::Lit(*b),
+        Term::Var { name, width } => Form::Var {
+            name,
+            width: *width,
+        },
+        Term::App { op, args } => match args.as_slice() {
+            [a] => Form::One { op: *op, a },
+            [a, b] => Form::Two { op: *op, a, b },
+            [a, b, c] => Form::Three { op: *op, a, b, c },
+            _ => unreachable!(),
+        },
+        Term::Sel { of, at } => Form::Sel { of, at: at.get() },
+    }
+}
+
+/// An array term, one form at a time, with its parts.
+#[derive(Debug, Clone, Copy, Drop)]
+pub enum ArrayForm<'t> {
+    /// An array variable.
+    Var {
+        name: &'t Name,
+    },
+    /// An array, but for the byte at an index.
+    Upd {
+        of: &'t ArrayTerm,
+        at: &'t Term,
+        by: &'t Term,
+    },
+    /// The array `below` below an index, and the array `of` from it on.
+    Splice {
+        of: &'t ArrayTerm,
+        below: &'t ArrayTerm,
+        at: &'t Term,
+    },
+}
+
+/// The form of an array term.
+pub fn array_form_of<'t>(array: &'t ArrayTerm) -> ArrayForm<'t>
+    ensures form { IsArrayForm (array_tree array.now) result }
+{
+    match array {
+        ArrayTerm::Var(name) => ArrayForm::Var { name },
+        ArrayTerm::Upd { of, at, by } => ArrayForm::Upd {
+            of: of.get(),
+            at: at.get(),
+            by: by.get(),
+        },
+        ArrayTerm::Splice { of, below, at } => ArrayForm::Splice {
+            of: of.get(),
+            below: below.get(),
+            at: at.get(),
+        },
+    }
+}
+
+/// Whether two terms are the same.
+pub fn same(one: &Term, two: &Term) -> bool
+    requires one_typed { IsTyped (tree one.now) }
+    requires two_typed { IsTyped (tree two.now) }
+    ensures same { result ≡ same_tree (tree one.now) (tree two.now) }
+{
+    match form_of(one) {
+        Form::Lit(a) => match form_of(two) {
+            Form::Lit(b) => a.width == b.width && a.value == b.value,
+            _ => false,
+        },
+        Form::Var { name, width } => match form_of(two) {
+            Form::Var {
+                name: other,
+                width: w,
+            } => name.bytes() == other.bytes() && width == w,
+            _ => false,
+        },
+        Form::One { op, a } => match form_of(two) {
+            Form::One { op: other, a: b } => same_op(op, other) && same(a, b),
+            _ => false,
+        },
+        Form::Two { op, a, b } => match form_of(two) {
+            Form::Two {
+                op: other,
+                a: c,
+                b: d,
+            } => same_op(op, other) && (same(a, c) && same(b, d)),
+            _ => false,
+        },
+        Form::Three { op, a, b, c } => match form_of(two) {
+            Form::Three {
+                op: other,
+                a: d,
+                b: e,
+                c: f,
+            } => { same_op(op, other) && (same(a, d) && (same(b, e) && same(c, f))) }
+            _ => false,
+        },
+        Form::Sel { of, at } => match form_of(two) {
+            Form::Sel {
+                of: other,
+                at: index,
+            } => of.bytes() == other.bytes() && same(at, index),
+            _ => false,
+        },
+    }
+}
+
+/// The height of a term that is at most 1,024 high.
+pub fn height(term: &Term) -> u32
+    requires typed { IsTyped (tree term.now) }
+    requires low { height (tree term.now) ≤ HIGHEST }
+    ensures height { result ≡ height (tree term.now) }
+{
+    match term {
+        Term::Lit(_) => 1,
+        Term::Var { name: _, width: _ } => 1,
+        Term::App { op: _, args } => match args.as_slice() {
+            [a] => 1 + height(a),
+            [a, b] => 1 + height(a).max(height(b)),
+            [a, b, c] => 1 + height(a).max(height(b).max(height(c))),
+            _ => unreachable!(),
+        },
+        Term::Sel { of: _, at } => 1 + height(at.get()),
+    }
+}
+
+/// A term of its own that is the same.
+pub fn copy(alloc: Global, term: &Term) -> Result<Term, NoMemory>
+    requires typed { IsTyped (tree term.now) }
+    ensures same { IfOk result (λ t. tree t ≡ tree term.now) }
+{
+    Ok(match term {
+        Term::Lit(b) => Term::Lit(*b),
+        Term::Var { name, width } => Term::Var {
+            name: name.copy(alloc)?,
+            width: *width,
+        },
+        Term::App { op, args } => Term::App {
+            op: *op,
+            args: match args.as_slice() {
+                [a] => list_of_one(alloc, copy(alloc, a)?)?,
+                [a, b] => list_of_two(alloc, copy(alloc, a)?, copy(alloc, b)?)?,
+                [a, b, c] => list_of_three(
+                    alloc,
+                    copy(alloc, a)?,
+                    copy(alloc, b)?,
+                    copy(alloc, c)?,
+                )?,
+                _ => unreachable!(),
+            },
+        },
+        Term::Sel { of, at } => Term::Sel {
+            of: of.copy(alloc)?,
+            at: Boxed::new(alloc, copy(alloc, at.get())?)?,
+        },
+    })
+}
+
+/// An array term of its own that is the same.
+pub fn copy_array(alloc: Global, array: &ArrayTerm) -> Result<ArrayTerm, NoMemory>
+    requires typed { IsTypedArray (array_tree array.now) }
+    ensures same { IfOk result (λ f. array_tree f ≡ array_tree array.now) }
+{
+    match array_form_of(array) {
+        ArrayForm::Var { name } => Ok(ArrayTerm::Var(name.copy(alloc)?)),
+        ArrayForm::Upd { of, at, by } => Ok(ArrayTerm::Upd {
+            of: Boxed::new(alloc, copy_array(alloc, of)?)?,
+            at: Boxed::new(alloc, copy(alloc, at)?)?,
+            by: Boxed::new(alloc, copy(alloc, by)?)?,
+        }),
+        ArrayForm::Splice { of, below, at } => Ok(ArrayTerm::Splice {
+            of: Boxed::new(alloc, copy_array(alloc, of)?)?,
+            below: Boxed::new(alloc, copy_array(alloc, below)?)?,
+            at: Boxed::new(alloc, copy(alloc, at)?)?,
+        }),
+    }
+}
+
+/// One term as a list.
+pub fn list_of_one(alloc: Global, a: Term) -> Result<Items<Term>, NoMemory>
+    ensures list { IfOk result (λ xs. xs ≡ a ∷ []) }
+{
+    let mut list = Vec::with_capacity(alloc, 1)?;
+    list.push(a)?;
+    Ok(Items::from_vec(list))
+}
+
+/// Two terms as a list.
+pub fn list_of_two(alloc: Global, a: Term, b: Term) -> Result<Items<Term>, NoMemory>
+    ensures list { IfOk result (λ xs. xs ≡ a ∷ b ∷ []) }
+{
+    let mut list = Vec::with_capacity(alloc, 2)?;
+    list.push(a)?;
+    list.push(b)?;
+    Ok(Items::from_vec(list))
+}
+
+/// Three terms as a list.
+pub fn list_of_three(alloc: Global, a: Term, b: Term, c: Term) -> Result<Items<Term>, NoMemory>
+    ensures list { IfOk result (λ xs. xs ≡ a ∷ b ∷ c ∷ []) }
+{
+    let mut list = Vec::with_capacity(alloc, 3)?;
+    list.push(a)?;
+    list.push(b)?;
+    list.push(c)?;
+    Ok(Items::from_vec(list))
+}
