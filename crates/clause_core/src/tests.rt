@@ -249,21 +249,21 @@ const S2: Hint = Hint::Step(2);
 
 const G: Hint = Hint::Goal;
 
-const R0: Hint = Hint::Axiom {
+const IMP_ROW_0: Hint = Hint::Axiom {
     term: 2,
     part: 0,
     bit: 0,
     row: 0,
 };
 
-const R1: Hint = Hint::Axiom {
+const IMP_ROW_1: Hint = Hint::Axiom {
     term: 2,
     part: 0,
     bit: 0,
     row: 1,
 };
 
-const R2: Hint = Hint::Axiom {
+const IMP_ROW_2: Hint = Hint::Axiom {
     term: 2,
     part: 0,
     bit: 0,
@@ -289,33 +289,33 @@ fn one_step(rt: HostRuntime) -> Result<(), Fail> {
     let alloc = rt.alloc();
     checks(&rt, alloc, &[], NOT_EMPTY)?;
     let table: [(&[Lit], &[Hint], Result<(), CertFault>); 25] = [
-        (&[], &[F0, F1, R0, G], Ok(())),
-        (&[], &[F0, R0, G], not_unit(0, 1)),
-        (&[], &[F0, F1, R0], no_conflict(0)),
-        (&[], &[S0, F1, R0, G], no_such(0, 0)),
+        (&[], &[F0, F1, IMP_ROW_0, G], Ok(())),
+        (&[], &[F0, IMP_ROW_0, G], not_unit(0, 1)),
+        (&[], &[F0, F1, IMP_ROW_0], no_conflict(0)),
+        (&[], &[S0, F1, IMP_ROW_0, G], no_such(0, 0)),
         (&[], &[], no_conflict(0)),
         // A literal that stands twice counts once.
-        (&[], &[F2, F1, R0, G], Ok(())),
+        (&[], &[F2, F1, IMP_ROW_0, G], Ok(())),
         (&[], &[F2, F3, G], Ok(())),
         // Hints after the end aren't looked at.
         (&[], &[F5], Ok(())),
         (&[], &[F0, F5, S0, Hint::Fact(77)], Ok(())),
         // No clause has the name.
         (&[], &[Hint::Fact(6)], no_such(0, 0)),
-        (&[], &[F0, R2], no_such(0, 1)),
+        (&[], &[F0, IMP_ROW_2], no_such(0, 1)),
         (&[], &[F0, F1, S1], no_such(0, 2)),
         // A true literal, two open ones, or both.
         (&[], &[F0, F0], not_unit(0, 1)),
         (&[], &[F4], not_unit(0, 0)),
         (&[], &[F0, F4], not_unit(0, 1)),
-        (&[], &[R1], not_unit(0, 0)),
-        (&[], &[F0, R1], not_unit(0, 1)),
-        (&[], &[Hint::Truth, F0, F1, R0, G], Ok(())),
+        (&[], &[IMP_ROW_1], not_unit(0, 0)),
+        (&[], &[F0, IMP_ROW_1], not_unit(0, 1)),
+        (&[], &[Hint::Truth, F0, F1, IMP_ROW_0, G], Ok(())),
         (&[NOT_TRUE], &[Hint::Truth], not_unit(0, 0)),
-        (&[NOT_P], &[F0, R1, F5], not_unit(0, 0)),
+        (&[NOT_P], &[F0, IMP_ROW_1, F5], not_unit(0, 0)),
         // The last clause isn't empty.
         (&[TRUE], &[Hint::Truth], NOT_EMPTY),
-        (&[Q], &[F0, F1, R0], NOT_EMPTY),
+        (&[Q], &[F0, F1, IMP_ROW_0], NOT_EMPTY),
         (&[P, NOT_P], &[], NOT_EMPTY),
         (&[Q, P, Q, NOT_Q], &[S0], NOT_EMPTY),
         // A fault of a step comes before that of the end.
@@ -330,8 +330,8 @@ fn one_step(rt: HostRuntime) -> Result<(), Fail> {
 #[test]
 fn several_steps(rt: HostRuntime) -> Result<(), Fail> {
     let alloc = rt.alloc();
-    let derived: (&[Lit], &[Hint]) = (&[Q], &[F0, F1, R0]);
-    let twice: (&[Lit], &[Hint]) = (&[Q, Q], &[F0, F1, R0]);
+    let derived: (&[Lit], &[Hint]) = (&[Q], &[F0, F1, IMP_ROW_0]);
+    let twice: (&[Lit], &[Hint]) = (&[Q, Q], &[F0, F1, IMP_ROW_0]);
     let empty: (&[Lit], &[Hint]) = (&[], &[F5]);
     let both: (&[Lit], &[Hint]) = (&[NOT_P, P], &[S2]);
     checks(&rt, alloc, &[derived, (&[], &[S0, G])], Ok(()))?;
@@ -346,10 +346,20 @@ fn several_steps(rt: HostRuntime) -> Result<(), Fail> {
         no_such(1, 1),
     )?;
     // What one step made true isn't true in the next.
-    checks(&rt, alloc, &[derived, (&[], &[F1, R0, G])], not_unit(1, 1))?;
+    checks(
+        &rt,
+        alloc,
+        &[derived, (&[], &[F1, IMP_ROW_0, G])],
+        not_unit(1, 1),
+    )?;
     checks(&rt, alloc, &[derived, (&[], &[S0])], no_conflict(1))?;
     // The first fault counts.
-    checks(&rt, alloc, &[(&[], &[F4]), (&[], &[R2])], not_unit(0, 0))?;
+    checks(
+        &rt,
+        alloc,
+        &[(&[], &[F4]), (&[], &[IMP_ROW_2])],
+        not_unit(0, 0),
+    )?;
     // The last clause decides, whatever stands before it.
     checks(&rt, alloc, &[empty, (&[Q], &[S0])], NOT_EMPTY)?;
     checks(&rt, alloc, &[empty, (&[Q], &[])], no_conflict(1))?;

@@ -30,3 +30,4 @@ pub mod SmallLemmas
 pub mod TextLemmas
 pub mod TopLemmas
 pub mod WordLemmas
+pub mod ParseLemmas

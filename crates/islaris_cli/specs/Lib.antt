@@ -19,3 +19,4 @@ pub mod SailFormWords
 pub mod Texts
 pub mod Top
 pub mod Verdict
+pub mod Words

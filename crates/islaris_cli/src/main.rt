@@ -2,6 +2,7 @@
 #![tactic(auto)]
 
 pub mod code;
+pub mod command_words;
 pub mod judge;
 pub mod laws;
 pub mod proof_form;

@@ -10,6 +10,7 @@ ghost use Rattle.islaris_cli.specs.Texts.{usage_text};
 ghost use Rattle.islaris_cli.specs.Verdict.{Row, refuse, bad_input, beyond, row_named, verdict_of};
 ghost use Rattle.islaris_cli.specs.Top.{words_of, is_dashed, row_of, sources, IsRead, AreRead, HaltsAt, IsHalt, Answers, status_of, text_of, number_of, IsFinished, HasCause, WroteSome, Tells, TellsAccepted, TellsLimit, TellsMissing, TellsReadFault, answer_over, IsExact};
 
+use crate::command_words::{row, spelled};
 use crate::judge::{Answer, Names, judge};
 use crate::texts::{on_file, on_name, usage};
 use files_core::{Files, InFault, OutFault, Sink, read_all, write_all};
@@ -83,51 +84,6 @@ struct Texts {
     sail: Vec<u8>,
     image: Vec<u8>,
     proof: Vec<u8>,
-}
-
-// Whether the word begins with `-`.
-fn begins_with_dash(word: &str) -> bool
-    ensures { result ≡ is_dashed word.now }
-{
-    match word.as_bytes() {
-        [first, ..] => *first == b'-',
-        [] => false,
-    }
-}
-
-// Whether one of the words begins with `-`.
-fn has_dash(words: &[String]) -> bool
-    ensures { result ≡ list_any is_dashed (words_of words.now) }
-{
-    for word in words {
-        if begins_with_dash(word.as_str()) {
-            return true;
-        }
-    }
-    false
-}
-
-// The names of the three files, where the words are those of a check and none begins with `-`.
-fn row<'a>(words: &'a [String]) -> Option<Names<'a>>
-    ensures { MatchOption result (row_of (words_of words.now) ≡ None) (λ names. row_of (words_of words.now) ≡ Some (row_named names)) }
-{
-    if has_dash(words) {
-        return None;
-    }
-    match words {
-        [command, sail, image, proof] => {
-            if command.as_str() == "check" {
-                Some(Names {
-                    sail: sail.as_str(),
-                    image: image.as_str(),
-                    proof: proof.as_str(),
-                })
-            } else {
-                None
-            }
-        }
-        _ => None,
-    }
 }
 
 // The whole file, if it is there and has at most so many bytes.
@@ -219,7 +175,8 @@ fn work<F: Files>(alloc: Global, words: &[String], files: &mut F) -> Result<Outc
       faults' = F.faults files.new;
     })) }
 {
-    let Some(row) = row(words) else {
+    let spelled = spelled(alloc, words)?;
+    let Some(row) = row(alloc, &spelled)? else {
         let text = usage(alloc)?;
         return Ok(Outcome {
             status: Status::Words,

@@ -31,3 +31,8 @@ pub mod WordLemmas
 pub mod SelectLemmas
 pub mod PartLemmas
 pub mod ReplacedLemmas
+pub mod CutLemmas
+pub mod TokenTextLemmas
+pub mod ArrayWordLemmas
+pub mod PrintedLemmas
+pub mod AsciiLemmas

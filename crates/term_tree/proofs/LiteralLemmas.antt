@@ -33,17 +33,17 @@ not_underscore d h false e =
 -- ---- all digits
 
 -- a digit is below the radix, and below 16
-digit_below : (each n x : ℕ) → each ≤ 4 → (x / 2 ^ (each * n) % 2 ^ each < 2 ^ each) × (x / 2 ^ (each * n) % 2 ^ each < 16)
+pub digit_below : (each n x : ℕ) → each ≤ 4 → (x / 2 ^ (each * n) % 2 ^ each < 2 ^ each) × (x / 2 ^ (each * n) % 2 ^ each < 16)
 digit_below each n x h =
     let p = small_power each h in
     let below : x / 2 ^ (each * n) % 2 ^ each < 2 ^ each = omega arith in
     (below, omega (arith, below, p.1))
 
-digits_length : (each n x : ℕ) → length (last_digits each n x) ≡ n
+pub digits_length : (each n x : ℕ) → length (last_digits each n x) ≡ n
 digits_length each zero x = refl
 digits_length each (suc n) x = ap suc (digits_length each n x)
 
-no_underscore : (each n x : ℕ) → each ≤ 4 → digits (last_digits each n x) ≡ last_digits each n x
+pub no_underscore : (each n x : ℕ) → each ≤ 4 → digits (last_digits each n x) ≡ last_digits each n x
 no_underscore each zero x h = refl
 no_underscore each (suc n) x h =
     let d = x / 2 ^ (each * n) % 2 ^ each in

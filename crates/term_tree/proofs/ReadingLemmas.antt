@@ -1,7 +1,7 @@
 -- The code's stack, and the terms that it holds.
 use Rattle.std.proofs.Common.{◌≡◌, ℕ, zero, suc, ◌+◌, ◌≤◌, ◌<◌, Bool, true, false, List, [], ◌∷◌, ◌++◌, length, map, reverse, get_or, take, Option, Some, None, IsSome, refl, sym, ap, subst, ◌∙◌, arith}
 use Rattle.std.specs.Prelude.{All, MatchOption, bytes_eq, if◌then◌else◌}
-use Rattle.std.proofs.lemmas.Bool.{lt-ltb, le-ltb, false≢true}
+use Rattle.std.proofs.lemmas.Bool.{le-ltb, false≢true}
 use Rattle.std.proofs.lemmas.List.{reverse-append, map-append, length-reverse, length-map, take_more}
 use Rattle.std.proofs.lemmas.List.Elements.{All-cons}
 use Rattle.bv_bits.specs.declared.Op.{Op}
@@ -98,9 +98,6 @@ term_at ts k d h l = all_terms ts h k d l
 
 pub selection_low : (f : Text) (i : Tree) → height i < 1024 → within_height (select (array f) i) ≡ Some (sel f i)
 selection_low f i h = rw (le-ltb HIGHEST (1 + height i) (omega arith)) refl
-
-pub selection_high : (f : Text) (i : Tree) → 1024 ≤ height i → within_height (select (array f) i) ≡ None
-selection_high f i h = rw (lt-ltb HIGHEST (1 + height i) (omega arith)) refl
 
 -- ---- the widths of terms
 

@@ -16,13 +16,13 @@ use Rattle.term_tree.proofs.NormalLemmas.{normal_made}
 use Rattle.term_tree.proofs.ReadingLemmas.{selection_low}
 
 -- words in a row are followed part by part
-splits : (ws vs : List Word) (ls r : Words) → Follows (ws ++ vs) ls r → (q : Words) × Follows ws ls q × Follows vs q r
+pub splits : (ws vs : List Word) (ls r : Words) → Follows (ws ++ vs) ls r → (q : Words) × Follows ws ls q × Follows vs q r
 splits [] vs ls r f = (ls, refl, f)
 splits (w ∷ ws) vs [] r f = absurd f
 splits (w ∷ ws) vs (l ∷ ls) r f = let s = splits ws vs ls r f.1 in (s.0, (f.0, s.1), s.2)
 
 -- one word
-closed_by : (q r : Words) → Follows (closes ∷ []) q r → (p : ℕ) × (q ≡ placed closes p ∷ r)
+pub closed_by : (q r : Words) → Follows (closes ∷ []) q r → (p : ℕ) × (q ≡ placed closes p ∷ r)
 closed_by [] r f = absurd f
 closed_by (l ∷ ls) r f = (l.at, ap (λ (w : Word). placed w l.at ∷ ls) f.0 ∙ ap (λ (k : Words). placed closes l.at ∷ k) f.1)
 
@@ -105,7 +105,7 @@ module _ (scope : Scope) where
       subst (λ (w : Word). Spells scope (suc n) (placed w l.at ∷ ls) (applied op ts) r) (sym e)
       (an_application (heads op ls bs h f) (subst (λ (k : Words). Arguments scope n (arity op) bs ts k) last.1 args) fits made)
 
-  spells : (t : Tree) (n : ℕ) (ls r : Words) → IsTyped t → height t ≤ HIGHEST → IsNormal t → HasNoDivision t → IsDeclared scope t → height t ≤ suc n → Follows (term_words t) ls r → Spells scope n ls t r
+  pub spells : (t : Tree) (n : ℕ) (ls r : Words) → IsTyped t → height t ≤ HIGHEST → IsNormal t → HasNoDivision t → IsDeclared scope t → height t ≤ suc n → Follows (term_words t) ls r → Spells scope n ls t r
   spells (lit b) n [] r typed low normal whole declared room f = absurd f
   spells (lit b) n (l ∷ ls) r typed low normal whole declared room f =
       subst (λ (w : Word). Spells scope n (placed w l.at ∷ ls) (lit b) r) (sym f.0) (subst (λ (k : Words). Spells scope n (placed (literal b) l.at ∷ ls) (lit b) k) f.1 a_literal)

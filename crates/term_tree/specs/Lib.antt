@@ -21,3 +21,4 @@ pub mod Normal
 pub mod TermWords
 pub mod Replaced
 pub mod ArrayForms
+pub mod PrintedLaws

@@ -1,10 +1,11 @@
 -- Terms in which no rule fits.
-use Rattle.std.specs.Prelude.{◌≡◌, ⊤, ℕ, ◌≤◌, Some, None}
+use Rattle.std.specs.Prelude.{◌≡◌, ⊤, ℕ, ◌≤◌, Some, None, All}
 use Rattle.bv_bits.specs.declared.Bits.{Bits}
 use Rattle.bv_bits.specs.declared.Op.{Op}
 use Rattle.term_tree.specs.Terms.{Text, Tree, lit, var, one, two, three, sel, ArrayTree, array, upd, splice, height, HIGHEST}
 use Rattle.term_tree.specs.Rules.{rule_of}
 use Rattle.term_tree.specs.Making.{IsMade, make, select, within_height}
+use Rattle.term_tree.specs.Replacing.{Replacements, substitute, substitute_array}
 use Rattle.term_tree.specs.Words.{Scope}
 use Rattle.term_tree.specs.Spelling.{Words, Spells}
 
@@ -32,6 +33,11 @@ IsNormalArray (array f) = ⊤
 IsNormalArray (upd of at by) = IsNormalArray of × IsNormal at × IsNormal by
 IsNormalArray (splice of below at) = IsNormalArray of × IsNormalArray below × IsNormal at
 
+-- replacements by such terms and array terms
+pub record AreNormal (by : Replacements) : Type 0 where
+  pub terms : All (λ p. IsNormal p.1) by.terms
+  pub arrays : All (λ p. IsNormalArray p.1) by.arrays
+
 -- ---- laws
 
 -- what is made of normal arguments is normal
@@ -41,6 +47,14 @@ MadeIsNormal = (t u : Tree) → HasNormalParts t → IsMade t u → IsNormal u
 -- so is what is selected of normal parts
 abbrev pub SelectedIsNormal : Type 0
 SelectedIsNormal = (f : ArrayTree) (i : Tree) → IsNormalArray f → IsNormal i → IsNormal (select f i).it
+
+-- so is any term whose variables are replaced by normal ones
+abbrev pub SubstitutedIsNormal : Type 0
+SubstitutedIsNormal = (by : Replacements) (t : Tree) → AreNormal by → IsNormal (substitute by t).it
+
+-- and any array term
+abbrev pub SubstitutedArrayIsNormal : Type 0
+SubstitutedArrayIsNormal = (by : Replacements) (f : ArrayTree) → AreNormal by → IsNormalArray (substitute_array by f).it
 
 -- what is spelled, and so what is read, is normal
 abbrev pub SpelledIsNormal : Type 0

@@ -10,7 +10,7 @@ ghost use Rattle.term_tree.specs.ReadingView.{frames_of, mode_view, HoldTerms, I
 use crate::reading::TermReadFault;
 use crate::term::{ArrayTerm, Sort, Term, TermFault, VarDecl};
 use crate::term_reading::{DEEPEST, Frame, Mode, Turn, step};
-use crate::trees::{height, width};
+use crate::trees::{HIGHEST, array_height, height, width};
 use crate::words::{Word, sort_of};
 use lex_core::{Name, NoMemory};
 use sqlite_items::{Boxed, Items};
@@ -100,20 +100,6 @@ fn array_depth(arrays: &Items<ArrayFrame>) -> usize
     ensures small { result + 1 < 2 ^ 64 }
 {
     arrays.as_slice().len()
-}
-
-/// The height of an array term that is at most 1,024 high.
-fn height_of(array: &ArrayTerm) -> u32
-    requires { IsArrayTerm (array_tree array.now) }
-    ensures { result ≡ array_height (array_tree array.now) }
-{
-    match array {
-        ArrayTerm::Var(_) => 1,
-        ArrayTerm::Upd { of, at, by } => 1
-            + height_of(of.get()).max(height(at.get()).max(height(by.get()))),
-        ArrayTerm::Splice { of, below, at } => 1
-            + height_of(of.get()).max(height_of(below.get()).max(height(at.get()))),
-    }
 }
 
 /// A term is wanted in a bracket.
@@ -352,14 +338,14 @@ fn is_high(array: &ArrayTerm) -> bool
 {
     let highest = match array {
         ArrayTerm::Var(_) => 0,
-        ArrayTerm::Upd { of, at, by } => height_of(of.get()).max(height(at.get()).max(height(
+        ArrayTerm::Upd { of, at, by } => array_height(of.get()).max(height(at.get()).max(height(
             by.get(),
         ))),
-        ArrayTerm::Splice { of, below, at } => height_of(of.get()).max(height_of(below.get()).max(
-            height(at.get()),
-        )),
+        ArrayTerm::Splice { of, below, at } => array_height(of.get()).max(array_height(
+            below.get(),
+        ).max(height(at.get()))),
     };
-    highest >= 1024
+    highest >= HIGHEST
 }
 
 /// The next word of a term in its bracket, inside so many open brackets.

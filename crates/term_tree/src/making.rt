@@ -14,14 +14,11 @@ ghost use Rattle.term_tree.specs.Answers.{Answers};
 
 use crate::rules::{Right, one_rule, three_rule, two_rule};
 use crate::term::{Term, TermFault};
-use crate::trees::{Trees, copy, height, list_of_one, list_of_two};
+use crate::trees::{HIGHEST, Trees, copy, height, list_of_one, list_of_two};
 use bv_bits::{Bits, Op};
 use lex_core::NoMemory;
 use sqlite_items::Items;
 use std::alloc::Global;
-
-/// How high a term may be.
-const HIGHEST: u32 = 1024;
 
 /// The term that stands for an operator at arguments: the first rewrite rule that fits is applied, and every application on
 /// its right side is made in turn; where none fits, it is the application itself.

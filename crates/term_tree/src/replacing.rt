@@ -12,11 +12,11 @@ ghost use Rattle.term_tree.specs.Replaced.{named_tree, named_array, replacements
 ghost use Rattle.term_tree.specs.Answers.{Answers};
 ghost use Rattle.term_tree.specs.View.{tree, array_tree};
 
-use crate::selecting::{
-    HIGHEST, byte_of_variable, made_of_one, made_of_three, made_of_two, select,
-};
+use crate::selecting::{byte_of_variable, made_of_one, made_of_three, made_of_two, select};
 use crate::term::{ArrayTerm, Term, TermFault};
-use crate::trees::{ArrayForm, Form, array_form_of, copy, copy_array, form_of, height};
+use crate::trees::{
+    ArrayForm, Form, HIGHEST, array_form_of, array_height, copy, copy_array, form_of, height,
+};
 use lex_core::{Name, NoMemory};
 use sqlite_items::Boxed;
 use std::alloc::Global;
@@ -277,19 +277,5 @@ fn joined(alloc: Global, of: ArrayTerm, below: ArrayTerm, at: Term) -> Result<Ar
         })
     } else {
         Err(TermFault::TermTooHigh)
-    }
-}
-
-/// The height of an array term that is at most 1,024 high.
-fn array_height(array: &ArrayTerm) -> u32
-    requires typed { IsTypedArray (array_tree array.now) }
-    requires low { array_height (array_tree array.now) ≤ HIGHEST }
-    ensures height { result ≡ array_height (array_tree array.now) }
-{
-    match array_form_of(array) {
-        ArrayForm::Var { name: _ } => 1,
-        ArrayForm::Upd { of, at, by } => 1 + array_height(of).max(height(at).max(height(by))),
-        ArrayForm::Splice { of, below, at } => 1
-            + array_height(of).max(array_height(below).max(height(at))),
     }
 }

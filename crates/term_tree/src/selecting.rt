@@ -12,15 +12,12 @@ ghost use Rattle.term_tree.specs.View.{tree, array_tree};
 use crate::making::make;
 use crate::term::{ArrayTerm, Term, TermFault};
 use crate::trees::{
-    ArrayForm, array_form_of, copy, height, list_of_one, list_of_three, list_of_two,
+    ArrayForm, HIGHEST, array_form_of, copy, height, list_of_one, list_of_three, list_of_two,
 };
 use bv_bits::Op;
 use lex_core::Name;
 use sqlite_items::Boxed;
 use std::alloc::Global;
-
-/// How high a term may be.
-pub const HIGHEST: u32 = 1024;
 
 /// The term for the byte, of 8 bits, of an array term at an index of 64 bits.
 ///

@@ -14,12 +14,13 @@ ghost use Rattle.term_tree.specs.ReadingView.{frame_view, frames_of, mode_view, 
 
 use crate::making::make;
 use crate::reading::TermReadFault;
+use crate::selecting::byte_of_variable;
 use crate::term::{Sort, Term, TermFault, VarDecl};
-use crate::trees::{height, width};
+use crate::trees::width;
 use crate::words::{Word, arity, operator, sort_of};
 use bv_bits::{Bits, Op};
 use lex_core::{Name, NoMemory};
-use sqlite_items::{Boxed, Items};
+use sqlite_items::Items;
 use std::alloc::Global;
 
 /// How deep brackets nest at most.
@@ -170,7 +171,6 @@ fn given(alloc: Global, stack: &mut Items<Frame>, term: Term) -> Result<Turn, Te
 }
 
 /// Makes an application.
-#[tactic(auto, using(crate::proofs::ReadingLemmas::selection_low, crate::proofs::ReadingLemmas::selection_high))]
 fn make_whole(alloc: Global, whole: Whole) -> Result<Term, TermFault>
     requires { IsFineWhole (whole_view whole) }
     ensures made { Answers tree (spec.whole_made (whole_view whole)) result }
@@ -178,15 +178,7 @@ fn make_whole(alloc: Global, whole: Whole) -> Result<Term, TermFault>
 {
     match whole {
         Whole::Application { op, terms } => make(alloc, op, terms),
-        Whole::Selection { of, index } => {
-            if height(&index) >= 1024 {
-                return Err(TermFault::TermTooHigh);
-            }
-            Ok(Term::Sel {
-                of,
-                at: Boxed::new(alloc, index)?,
-            })
-        }
+        Whole::Selection { of, index } => byte_of_variable(alloc, &of, index),
     }
 }
 

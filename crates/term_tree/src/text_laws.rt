@@ -1,7 +1,8 @@
 //! Laws of terms as text: facts over the definitions alone, each the contract of a function that does nothing.
 
-ghost use Rattle.term_tree.specs.Normal.{MadeIsNormal, SelectedIsNormal, SpelledIsNormal, NormalIsMade};
-ghost use Rattle.term_tree.specs.TermWords.{WordsSpell};
+ghost use Rattle.term_tree.specs.Normal.{MadeIsNormal, SelectedIsNormal, SubstitutedIsNormal, SubstitutedArrayIsNormal, SpelledIsNormal, NormalIsMade};
+ghost use Rattle.term_tree.specs.PrintedLaws.{PrintedIsCut, PrintedIsUtf8, PrintedIsRead, PrintedArrayIsCut, PrintedArrayIsUtf8, PrintedArrayIsRead};
+ghost use Rattle.term_tree.specs.TermWords.{WordsSpell, ArrayWordsSpell};
 ghost use Rattle.term_tree.specs.TextLaws.{LiteralTextStands, ReadIsSpelled, SpelledIsRead, SpelledOnce, ReadArrayIsSpelled, SpelledArrayIsRead, SpelledArrayOnce};
 
 /// What is read is spelled by the tokens from the first one up to the next, what is spelled is read, and so tokens spell
@@ -20,11 +21,13 @@ pub fn spelled_arrays()
     ensures once { SpelledArrayOnce }
 {}
 
-/// No rule fits any application in what is made of terms in which none does, in what is selected of them, and in what is
-/// read; and such a term is what is made of it, where it isn't too high.
+/// No rule fits any application in what is made of terms in which none does, in what is selected of them, in a term whose
+/// variables are replaced by them, and in what is read; and such a term is what is made of it, where it isn't too high.
 pub fn normal_terms()
     ensures made { MadeIsNormal }
     ensures selected { SelectedIsNormal }
+    ensures substituted { SubstitutedIsNormal }
+    ensures substituted_array { SubstitutedArrayIsNormal }
     ensures spelled { SpelledIsNormal }
     ensures stays { NormalIsMade }
 {}
@@ -38,4 +41,38 @@ pub fn literal_texts()
 /// its variables.
 pub fn printed_words()
     ensures { WordsSpell }
+{}
+
+/// The words of a printed array term spell it, wherever they stand, if no rule fits any application in it and the scope
+/// declares its variables.
+pub fn printed_array_words()
+    ensures { ArrayWordsSpell }
+{}
+
+/// What `print_term` prints of a term is cut into the words of that term, and is UTF-8, so that it is printed byte for
+/// byte, if the term has no division and the name of each variable is a name to the lexer.
+pub fn printed_is_cut()
+    ensures cut { PrintedIsCut }
+    ensures utf8 { PrintedIsUtf8 }
+{}
+
+/// What `print_array` prints of an array term is cut into the words of that array term, and is UTF-8, so that it is
+/// printed byte for byte, if it has no division and the name of each variable is a name to the lexer.
+pub fn printed_array_is_cut()
+    ensures cut { PrintedArrayIsCut }
+    ensures utf8 { PrintedArrayIsUtf8 }
+{}
+
+/// What `print_term` prints of a term, `read_term` reads back as that term, up to the end of the text, if no rule fits any
+/// application in it, it has no division, the name of each variable is a name to the lexer, and the scope declares the
+/// variables. No rule fits in what is read, nor in what is made of terms in which none fits.
+pub fn printed_is_read()
+    ensures { PrintedIsRead }
+{}
+
+/// What `print_array` prints of an array term, `read_array` reads back as that array term, up to the end of the text, if no
+/// rule fits any application in it, it has no division, the name of each variable is a name to the lexer, and the scope
+/// declares the variables.
+pub fn printed_array_is_read()
+    ensures { PrintedArrayIsRead }
 {}

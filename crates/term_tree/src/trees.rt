@@ -2,7 +2,7 @@
 
 ghost use Rattle.std.specs.Prelude.{◌≡◌, ◌≤◌, [], ◌∷◌, map, All, IfOk};
 ghost use Rattle.bv_bits.specs.Bits.{result_width_of};
-ghost use Rattle.term_tree.specs.Terms.{Tree, IsTyped, IsTypedArray, width_of, height, same_op, same_tree, applied, HIGHEST};
+ghost use Rattle.term_tree.specs.Terms.{Tree, IsTyped, IsTypedArray, width_of, height, array_height, same_op, same_tree, applied, HIGHEST};
 ghost use Rattle.term_tree.specs.View.{tree, array_tree};
 ghost use Rattle.term_tree.specs.Forms.{IsForm};
 ghost use Rattle.term_tree.specs.ArrayForms.{IsArrayForm};
@@ -13,6 +13,9 @@ use bv_bits::{Bits, Op};
 use lex_core::{Name, NoMemory};
 use sqlite_items::{Boxed, Items};
 use std::alloc::Global;
+
+/// How high a term may be.
+pub const HIGHEST: u32 = 1024;
 
 /// Terms that stand for themselves.
 #[derive(Debug, Clone, Copy, Drop)]
@@ -229,6 +232,20 @@ pub fn height(term: &Term) -> u32
             _ => unreachable!(),
         },
         Term::Sel { of: _, at } => 1 + height(at.get()),
+    }
+}
+
+/// The height of an array term that is at most 1,024 high.
+pub fn array_height(array: &ArrayTerm) -> u32
+    requires typed { IsTypedArray (array_tree array.now) }
+    requires low { array_height (array_tree array.now) ≤ HIGHEST }
+    ensures height { result ≡ array_height (array_tree array.now) }
+{
+    match array_form_of(array) {
+        ArrayForm::Var { name: _ } => 1,
+        ArrayForm::Upd { of, at, by } => 1 + array_height(of).max(height(at).max(height(by))),
+        ArrayForm::Splice { of, below, at } => 1
+            + array_height(of).max(array_height(below).max(height(at))),
     }
 }
 

@@ -1,0 +1,13 @@
+use Rattle.std.proofs.Common.{◌+◌, ◌*◌, map}
+use Rattle.term_tree.specs.Terms.{applied}
+use Rattle.term_tree.specs.Shapes.{right_of}
+use Rattle.term_tree.proofs.SizeLemmas.{work}
+use Rattle.term_arena.specs.Answers.{id_term}
+use Rattle.term_arena.proofs.WorkLemmas.{right_work}
+use Rattle.term_arena.proofs.terms.Terms.+making.Given as goal
+
+abbrev pub decreases-make : goal.decreases-make
+decreases-make l = 2 * work (applied l.op (map (id_term l.self.now) l.args.now)) + 1
+
+abbrev pub decreases-build : goal.decreases-build
+decreases-build l = 2 * right_work (right_of (id_term l.self.now) l.right) + 2

@@ -1,0 +1,9 @@
+pub mod Texts
+pub mod Nodes
+pub mod Arena
+pub mod Keeping
+pub mod Answers
+pub mod Built
+pub mod Renumbering
+pub mod Substituting
+pub mod Numbers
