@@ -19,7 +19,7 @@ use lex_core::NoMemory;
 use term_tree::TermFault;
 
 /// The top of a term, its arguments by their numbers.
-#[derive(Debug, Clone, Copy, Drop)]
+#[derive(Clone, Copy, Drop)]
 pub enum TermTop {
     /// A literal.
     Literal,

@@ -16,10 +16,7 @@ use indexmap::IndexSet;
 use lex_core::NoMemory;
 use std::alloc::Global;
 use std::marker::Model;
-use term_tree::{Nodes, Shape, TermFault};
-
-/// How high a term may be.
-const HIGHEST: u32 = 1024;
+use term_tree::{HIGHEST, Nodes, Shape, TermFault};
 
 /// Interned terms, which contracts see as one list of distinct nodes of terms and of array terms. A number stands for the
 /// node at that place, and the parts of a node stand before it.

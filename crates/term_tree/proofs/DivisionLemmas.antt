@@ -1,6 +1,6 @@
 -- What is read holds no division.
-use Rattle.std.proofs.Common.{◌≡◌, ℕ, suc, Bool, true, false, cond, eqb, List, [], ◌∷◌, Option, Some, None, Ok, refl, subst}
-use Rattle.std.specs.Prelude.{bytes_eq}
+use Rattle.std.proofs.Common.{◌≡◌, ℕ, Bool, true, false, cond, eqb, List, [], ◌∷◌, drop, Option, Some, None, Ok, refl, subst}
+use Rattle.std.specs.Prelude.{⊤, bytes_eq}
 use Rattle.bv_bits.specs.declared.Op.{Op}
 use Rattle.bv_bits.specs.declared.Op.TheVariants.{Eq, Ne, ULt, ULe, UGt, UGe, SLt, SLe, SGt, SGe}
 use Rattle.lex_core.specs.declared.token.Token.{Token}
@@ -8,15 +8,16 @@ use Rattle.term_tree.specs.Terms.{Text, Tree, ArrayTree, array, applied}
 use Rattle.term_tree.specs.Rules.{Right, given, made_one, made_two, opposite}
 use Rattle.term_tree.specs.Making.{IsMade, IsBuilt, plain, ruled, stands, builds_one, builds_two, make, select}
 use Rattle.term_tree.specs.Printing.{is_division, HasNoDivision, ArrayHasNoDivision}
-use Rattle.term_tree.specs.Words.{Scope, operators, operator_in, operator_of}
+use Rattle.term_tree.specs.Words.{lexemes, Scope, operators, operator_in, operator_of}
 use Rattle.term_tree.specs.Reading.{term_from, array_from}
 use Rattle.term_tree.specs.Spelling as spelling
-use Rattle.term_tree.specs.Spelling.{Words, Heads, extracting, zero_extending, sign_extending, Spells, a_literal, a_variable, an_application, a_selection, Arguments, no_more, one_more, ArraySpells, an_array, an_update, a_splice}
+use Rattle.term_tree.specs.Spelling.{Words, Heads, extracting, zero_extending, sign_extending}
 use Rattle.term_tree.proofs.Rewrites as rewrite
 use Rattle.term_tree.proofs.Rewrites.{Rewrites}
 use Rattle.term_tree.proofs.RewriteLemmas.{rewrites}
 use Rattle.term_tree.proofs.StepLemmas.{is_made}
-use Rattle.term_tree.proofs.NormalLemmas.{within_is}
+use Rattle.term_tree.proofs.AnswerLemmas.{within_is}
+use Rattle.term_tree.proofs.SpelledPartLemmas.{OfTerms, any_words, IsSpelledSo, ArrayIsSpelledSo, spelled_so, array_spelled_so}
 use Rattle.term_tree.proofs.SoundLemmas.{read_is_spelled}
 use Rattle.term_tree.proofs.ArraySoundLemmas.{read_array_is_spelled}
 
@@ -141,39 +142,35 @@ head_whole op ws r sign_extending = refl
 
 -- ---- what is spelled
 
-abbrev AreAllWhole : List Tree → Type 0
-AreAllWhole [] = Unit {0}
-AreAllWhole (t ∷ ts) = HasNoDivision t × AreAllWhole ts
-
-applied_whole : (op : Op) (ts : List Tree) → is_division op ≡ false → AreAllWhole ts → HasNoDivision (applied op ts)
+applied_whole : (op : Op) (ts : List Tree) → is_division op ≡ false → OfTerms HasNoDivision ts → HasNoDivision (applied op ts)
 applied_whole op [] e h = tt
 applied_whole op (a ∷ []) e h = (e, h.0)
 applied_whole op (a ∷ b ∷ []) e h = (e, h.0, h.1.0)
 applied_whole op (a ∷ b ∷ c ∷ []) e h = (e, h.0, h.1.0, h.1.1.0)
 applied_whole op (a ∷ b ∷ c ∷ d ∷ ts) e h = tt
 
-mutual
-  spelled_whole : (scope : Scope) (n : ℕ) (ws r : Words) (t : Tree) → Spells scope n ws t r → HasNoDivision t
-  spelled_whole scope n ws r t a_literal = tt
-  spelled_whole scope n ws r t (a_variable e) = tt
-  spelled_whole scope (suc n) ws r t (an_application {op = op} {ws = hs} {ws' = bs} {ts = ts} heads args fits made) =
-      subst HasNoDivision (within_is (make (applied op ts)) t made) (made_whole (is_made (applied op ts)) (applied_whole op ts (head_whole op hs bs heads) (arguments_whole scope n _ bs ts _ args)))
-  spelled_whole scope (suc n) ws r t (a_selection {f = f} {ws = inside} {i = i} e inner fits made) =
-      subst HasNoDivision (within_is (select (array f) i) t made) (spelled_whole scope n inside _ i inner)
+module _ (scope : Scope) where
+  whole_spelled : IsSpelledSo scope (λ w. ⊤) HasNoDivision
+  whole_spelled = record {
+    of_literal = λ b h. tt;
+    of_variable = λ x w h e. tt;
+    of_application = λ op ws r ts t heads h fits made. subst HasNoDivision (within_is (make (applied op ts)) t made).1 (made_whole (is_made (applied op ts)) (applied_whole op ts (head_whole op ws r heads) h));
+    of_selection = λ f i t h e inner wide made. subst HasNoDivision (within_is (select (array f) i) t made).1 inner;
+  }
 
-  arguments_whole : (scope : Scope) (n c : ℕ) (ws : Words) (ts : List Tree) (r : Words) → Arguments scope n c ws ts r → AreAllWhole ts
-  arguments_whole scope n c ws ts r no_more = tt
-  arguments_whole scope n (suc c) ws ts r (one_more {r = q} {t = t} {ts = us} first more) = (spelled_whole scope n ws q t first, arguments_whole scope n c q us r more)
-
-array_spelled_whole : (scope : Scope) (n : ℕ) (ws r : Words) (f : ArrayTree) → ArraySpells scope n ws f r → ArrayHasNoDivision f
-array_spelled_whole scope n ws r f (an_array e) = tt
-array_spelled_whole scope (suc n) ws r f (an_update of at by wide byte low) = (array_spelled_whole scope n _ _ _ of, spelled_whole scope n _ _ _ at, spelled_whole scope n _ _ _ by)
-array_spelled_whole scope (suc n) ws r f (a_splice of below at wide low) = (array_spelled_whole scope n _ _ _ of, array_spelled_whole scope n _ _ _ below, spelled_whole scope n _ _ _ at)
+  whole_array_spelled : ArrayIsSpelledSo scope (λ w. ⊤) HasNoDivision ArrayHasNoDivision
+  whole_array_spelled = record {
+    of_array = λ f h e. tt;
+    of_update = λ f i e h k l wide byte low. (h, k, l);
+    of_splice = λ f g i h k l wide low. (h, k, l);
+  }
 
 -- ---- what is read
 
 pub read_whole : (text : Text) (ts : List Token) (from next : ℕ) (scope : Scope) (t : Tree) → term_from text ts from scope ≡ Ok (t, next) → HasNoDivision t
-read_whole text ts from next scope t e = spelled_whole scope 1024 _ _ t (read_is_spelled text ts from next scope t e)
+read_whole text ts from next scope t e =
+    (spelled_so scope (λ w. ⊤) HasNoDivision (whole_spelled scope) 1024 (drop from (lexemes text ts)) (drop next (lexemes text ts)) t (read_is_spelled text ts from next scope t e) (any_words (drop from (lexemes text ts)))).0
 
 pub array_read_whole : (text : Text) (ts : List Token) (from next : ℕ) (scope : Scope) (f : ArrayTree) → array_from text ts from scope ≡ Ok (f, next) → ArrayHasNoDivision f
-array_read_whole text ts from next scope f e = array_spelled_whole scope 1024 _ _ f (read_array_is_spelled text ts from next scope f e)
+array_read_whole text ts from next scope f e =
+    (array_spelled_so scope (λ w. ⊤) HasNoDivision (whole_spelled scope) ArrayHasNoDivision (whole_array_spelled scope) 1024 (drop from (lexemes text ts)) (drop next (lexemes text ts)) f (read_array_is_spelled text ts from next scope f e) (any_words (drop from (lexemes text ts)))).0

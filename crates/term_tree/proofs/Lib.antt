@@ -36,3 +36,9 @@ pub mod TokenTextLemmas
 pub mod ArrayWordLemmas
 pub mod PrintedLemmas
 pub mod AsciiLemmas
+pub mod VariableLemmas
+pub mod SpelledPartLemmas
+pub mod FormedLemmas
+pub mod DeclaredLemmas
+pub mod ReadTermLemmas
+pub mod ReadBackLemmas

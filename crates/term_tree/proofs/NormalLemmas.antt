@@ -1,14 +1,14 @@
 -- What is made of normal terms is normal.
-use Rattle.std.proofs.Common.{◌≡◌, ℕ, suc, ◌≤◌, Bool, true, false, cond, eqb, List, [], ◌∷◌, Option, Some, None, refl, ap, subst, ◌∙◌}
+use Rattle.std.proofs.Common.{◌≡◌, ℕ, ◌≤◌, Bool, true, false, cond, eqb, List, [], ◌∷◌, Some, None, refl, ap, subst, ◌∙◌}
 use Rattle.std.proofs.lemmas.Bool.{le-ltb}
 use Rattle.bv_bits.specs.declared.Op.{Op}
 use Rattle.bv_bits.specs.declared.Op.TheVariants.{Eq, ULt, Ite}
-use Rattle.std.specs.Prelude.{All, bytes_eq}
+use Rattle.std.specs.Prelude.{⊤, All, bytes_eq}
 use Rattle.term_tree.specs.Terms.{Text, Tree, lit, var, one, two, three, sel, ArrayTree, array, upd, splice, applied, height, HIGHEST}
 use Rattle.term_tree.specs.Rules.{Right, given, made_one, made_two, rule_of}
-use Rattle.term_tree.specs.Making.{IsMade, IsBuilt, plain, ruled, stands, builds_one, builds_two, Made, just, asks, make_by, make, select, goes_high, within_height}
+use Rattle.term_tree.specs.Making.{IsMade, IsBuilt, plain, ruled, stands, builds_one, builds_two, Made, just, asks, make_by, make, select, within_height}
 use Rattle.term_tree.specs.Words.{Scope}
-use Rattle.term_tree.specs.Spelling.{Words, Spells, a_literal, a_variable, an_application, a_selection, Arguments, no_more, one_more}
+use Rattle.term_tree.specs.Spelling.{Words, Spells, ArraySpells}
 use Rattle.term_tree.specs.Replacing.{Replacements, replaced_var, replaced_array, substitute, substitute_array}
 use Rattle.term_tree.proofs.ReplaceLemmas.{found}
 use Rattle.term_tree.specs.Normal.{AreNormal as NormalReplacements, IsNormal, normal_literal, normal_variable, normal_one, normal_two, normal_three, normal_selection, HasNormalParts, IsNormalArray}
@@ -16,6 +16,8 @@ use Rattle.term_tree.proofs.Rewrites as rewrite
 use Rattle.term_tree.proofs.Rewrites.{Rewrites}
 use Rattle.term_tree.proofs.RewriteLemmas.{rewrites}
 use Rattle.term_tree.proofs.StepLemmas.{make_steps, is_made}
+use Rattle.term_tree.proofs.AnswerLemmas.{within_is}
+use Rattle.term_tree.proofs.SpelledPartLemmas.{OfTerms, any_words, IsSpelledSo, ArrayIsSpelledSo, spelled_so, array_spelled_so}
 
 -- ---- parts of normal terms
 
@@ -171,36 +173,33 @@ normal_made t n low = ap (λ (m : Made Tree). within_height m) (make_steps t ∙
 
 -- ---- what is spelled is normal
 
-some_of : (b : Bool) (u t : Tree) → cond b None (Some u) ≡ Some t → u ≡ t
-some_of true u t e = absurd (let f : ◌≡◌ {A = Option Tree} None (Some t) = e in cc)
-some_of false u t e = let f : ◌≡◌ {A = Option Tree} (Some u) (Some t) = e in cc
-
-pub within_is : (m : Made Tree) (t : Tree) → within_height m ≡ Some t → m.it ≡ t
-within_is m t e = some_of (goes_high m) m.it t e
-
-AreNormal : List Tree → Type 0
-AreNormal [] = Unit {0}
-AreNormal (t ∷ ts) = IsNormal t × AreNormal ts
-
-parts_normal : (op : Op) (ts : List Tree) → AreNormal ts → HasNormalParts (applied op ts)
-unfolding AreNormal
+parts_normal : (op : Op) (ts : List Tree) → OfTerms IsNormal ts → HasNormalParts (applied op ts)
 parts_normal op [] h = tt
 parts_normal op (a ∷ []) h = h.0
 parts_normal op (a ∷ b ∷ []) h = (h.0, h.1.0)
 parts_normal op (a ∷ b ∷ c ∷ []) h = (h.0, h.1.0, h.1.1.0)
 parts_normal op (a ∷ b ∷ c ∷ d ∷ ts) h = tt
 
-mutual
-  unfolding AreNormal
+module _ (scope : Scope) where
+  normal_spelled : IsSpelledSo scope (λ w. ⊤) IsNormal
+  normal_spelled = record {
+    of_literal = λ b h. normal_literal;
+    of_variable = λ x w h e. normal_variable;
+    of_application = λ op ws r ts t heads h fits made. subst IsNormal (within_is (make (applied op ts)) t made).1 (make_normal (applied op ts) (parts_normal op ts h));
+    of_selection = λ f i t h e inner wide made. subst IsNormal (within_is (select (array f) i) t made).1 (normal_selection inner);
+  }
 
-  pub spelled_normal : (scope : Scope) (n : ℕ) (ws r : Words) (t : Tree) → Spells scope n ws t r → IsNormal t
-  spelled_normal scope n ws r t a_literal = normal_literal
-  spelled_normal scope n ws r t (a_variable e) = normal_variable
-  spelled_normal scope (suc n) ws r t (an_application {op = op} {ws' = bs} {ts = ts} heads args fits made) =
-      subst IsNormal (within_is (make (applied op ts)) t made) (make_normal (applied op ts) (parts_normal op ts (arguments_normal scope n _ bs ts _ args)))
-  spelled_normal scope (suc n) ws r t (a_selection {f = f} {ws = inside} {i = i} e inner fits made) =
-      subst IsNormal (within_is (select (array f) i) t made) (normal_selection (spelled_normal scope n inside _ i inner))
+  normal_array_spelled : ArrayIsSpelledSo scope (λ w. ⊤) IsNormal IsNormalArray
+  normal_array_spelled = record {
+    of_array = λ f h e. tt;
+    of_update = λ f i e h k l wide byte low. (h, k, l);
+    of_splice = λ f g i h k l wide low. (h, k, l);
+  }
 
-  arguments_normal : (scope : Scope) (n c : ℕ) (ws : Words) (ts : List Tree) (r : Words) → Arguments scope n c ws ts r → AreNormal ts
-  arguments_normal scope n c ws ts r no_more = tt
-  arguments_normal scope n (suc c) ws ts r (one_more {r = q} {t = t} {ts = us} first more) = (spelled_normal scope n ws q t first, arguments_normal scope n c q us r more)
+pub spelled_normal : (scope : Scope) (n : ℕ) (ws r : Words) (t : Tree) → Spells scope n ws t r → IsNormal t
+spelled_normal scope n ws r t s = (spelled_so scope (λ w. ⊤) IsNormal (normal_spelled scope) n ws r t s (any_words ws)).0
+
+-- so are the terms in an array term that is spelled
+pub array_spelled_normal : (scope : Scope) (n : ℕ) (ws r : Words) (f : ArrayTree) → ArraySpells scope n ws f r → IsNormalArray f
+array_spelled_normal scope n ws r f s =
+    (array_spelled_so scope (λ w. ⊤) IsNormal (normal_spelled scope) IsNormalArray (normal_array_spelled scope) n ws r f s (any_words ws)).0

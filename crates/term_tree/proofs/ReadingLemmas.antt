@@ -55,16 +55,16 @@ none_open = refl
 -- ---- applications
 
 -- operators take arguments
-no_width : (op : Op) → result_width_of op [] ≡ None
+pub no_width : (op : Op) → result_width_of op [] ≡ None
 no_width Not = refl
 no_width op = refl
 
 -- and no more than three
-four_widths : (op : Op) (a b c d : ℕ) (ws : List ℕ) → result_width_of op (a ∷ b ∷ c ∷ d ∷ ws) ≡ None
+pub four_widths : (op : Op) (a b c d : ℕ) (ws : List ℕ) → result_width_of op (a ∷ b ∷ c ∷ d ∷ ws) ≡ None
 four_widths Not a b c d ws = refl
 four_widths op a b c d ws = refl
 
-not_some : (o : Option ℕ) → o ≡ None → IsSome o → ⊥
+pub not_some : (o : Option ℕ) → o ≡ None → IsSome o → ⊥
 not_some None e h = absurd (false≢true h)
 not_some (Some n) e h = absurd (cc)
 

@@ -1,5 +1,5 @@
 -- What is printed is read back: the bytes of a text are cut into the words of the term that was printed.
-use Rattle.std.specs.Prelude.{◌≡◌, ⊤, true, List, map, length, Ok}
+use Rattle.std.specs.Prelude.{◌≡◌, ⊤, ℕ, true, List, map, length, Ok}
 use Rattle.std.specs.Str.{IsUtf8}
 use Rattle.lex_core.specs.declared.token.Kind.TheVariants as kind
 use Rattle.lex_core.specs.declared.token.Token.{Token}
@@ -9,6 +9,7 @@ use Rattle.term_tree.specs.Terms.{Text, Tree, lit, var, one, two, three, sel, Ar
 use Rattle.term_tree.specs.Printing.{HasNoDivision, ArrayHasNoDivision, term_text, array_text}
 use Rattle.term_tree.specs.Words.{Word, Lexeme, lexemes, Scope}
 use Rattle.term_tree.specs.Reading.{term_from, array_from}
+use Rattle.term_tree.specs.ReadingView.{AreWidths}
 use Rattle.term_tree.specs.Normal.{IsNormal, IsNormalArray}
 use Rattle.term_tree.specs.TermWords.{term_words, array_words, IsDeclared, IsDeclaredArray}
 
@@ -66,3 +67,33 @@ PrintedArrayIsUtf8 = (f : ArrayTree) → IsTypedArray f → ArrayHasNoDivision f
 abbrev pub PrintedArrayIsRead : Type 0
 PrintedArrayIsRead = (scope : Scope) (f : ArrayTree) (ts : List Token) → IsArrayTerm f → IsNormalArray f → ArrayHasNoDivision f → ArrayHasNames f → IsDeclaredArray scope f
     → cut (array_text f) ≡ Ok ts → array_from (array_text f) ts 0 scope ≡ Ok (f, length ts)
+
+-- what is read of a text has names that the lexer takes, and the scope declares them with their sorts
+abbrev pub ReadIsDeclared : Type 0
+ReadIsDeclared = (text : Text) (ts : List Token) (from next : ℕ) (scope : Scope) (t : Tree) → cut text ≡ Ok ts → term_from text ts from scope ≡ Ok (t, next)
+    → HasNames t × IsDeclared scope t
+
+-- the same of an array term that is read
+abbrev pub ReadArrayIsDeclared : Type 0
+ReadArrayIsDeclared = (text : Text) (ts : List Token) (from next : ℕ) (scope : Scope) (f : ArrayTree) → cut text ≡ Ok ts → array_from text ts from scope ≡ Ok (f, next)
+    → ArrayHasNames f × IsDeclaredArray scope f
+
+-- what is read of a text, in a scope of widths from 1 to 128, is read back from its own text, up to its end
+abbrev pub ReadIsReadBack : Type 0
+ReadIsReadBack = (text : Text) (ts : List Token) (from next : ℕ) (scope : Scope) (t : Tree) (us : List Token) → cut text ≡ Ok ts → AreWidths scope → term_from text ts from scope ≡ Ok (t, next)
+    → cut (term_text t) ≡ Ok us → term_from (term_text t) us 0 scope ≡ Ok (t, length us)
+
+-- that text is cut, into the words of the term, and is UTF-8, so that it is printed byte for byte
+abbrev pub ReadIsCutBack : Type 0
+ReadIsCutBack = (text : Text) (ts : List Token) (from next : ℕ) (scope : Scope) (t : Tree) → cut text ≡ Ok ts → AreWidths scope → term_from text ts from scope ≡ Ok (t, next)
+    → IsCutInto (term_text t) (term_words t) × IsUtf8 (term_text t)
+
+-- an array term that is read is read back from its own text, up to its end
+abbrev pub ReadArrayIsReadBack : Type 0
+ReadArrayIsReadBack = (text : Text) (ts : List Token) (from next : ℕ) (scope : Scope) (f : ArrayTree) (us : List Token) → cut text ≡ Ok ts → AreWidths scope → array_from text ts from scope ≡ Ok (f, next)
+    → cut (array_text f) ≡ Ok us → array_from (array_text f) us 0 scope ≡ Ok (f, length us)
+
+-- that text is cut, into the words of the array term, and is UTF-8
+abbrev pub ReadArrayIsCutBack : Type 0
+ReadArrayIsCutBack = (text : Text) (ts : List Token) (from next : ℕ) (scope : Scope) (f : ArrayTree) → cut text ≡ Ok ts → AreWidths scope → array_from text ts from scope ≡ Ok (f, next)
+    → IsCutInto (array_text f) (array_words f) × IsUtf8 (array_text f)

@@ -11,6 +11,7 @@ mod reading;
 mod replacing;
 mod rules;
 mod selecting;
+mod sum_rules;
 mod term;
 mod term_reading;
 pub mod text_laws;
@@ -26,7 +27,7 @@ pub use replacing::{substitute, substitute_array};
 pub use rules::{Nodes, Right, Shape, one_rule, three_rule, two_rule};
 pub use selecting::select;
 pub use term::{ArrayTerm, Sort, Term, TermFault, Valuation, VarDecl};
-pub use trees::{Form, form_of, list_of_one, list_of_three, list_of_two};
+pub use trees::{Form, HIGHEST, form_of, list_of_one, list_of_three, list_of_two};
 pub use values::{VariableValues, value, value_in, value_one};
 
 #[cfg(test)]

@@ -1,7 +1,7 @@
 //! Laws of terms as text: facts over the definitions alone, each the contract of a function that does nothing.
 
 ghost use Rattle.term_tree.specs.Normal.{MadeIsNormal, SelectedIsNormal, SubstitutedIsNormal, SubstitutedArrayIsNormal, SpelledIsNormal, NormalIsMade};
-ghost use Rattle.term_tree.specs.PrintedLaws.{PrintedIsCut, PrintedIsUtf8, PrintedIsRead, PrintedArrayIsCut, PrintedArrayIsUtf8, PrintedArrayIsRead};
+ghost use Rattle.term_tree.specs.PrintedLaws.{PrintedIsCut, PrintedIsUtf8, PrintedIsRead, PrintedArrayIsCut, PrintedArrayIsUtf8, PrintedArrayIsRead, ReadIsDeclared, ReadArrayIsDeclared, ReadIsReadBack, ReadIsCutBack, ReadArrayIsReadBack, ReadArrayIsCutBack};
 ghost use Rattle.term_tree.specs.TermWords.{WordsSpell, ArrayWordsSpell};
 ghost use Rattle.term_tree.specs.TextLaws.{LiteralTextStands, ReadIsSpelled, SpelledIsRead, SpelledOnce, ReadArrayIsSpelled, SpelledArrayIsRead, SpelledArrayOnce};
 
@@ -75,4 +75,21 @@ pub fn printed_is_read()
 /// declares the variables.
 pub fn printed_array_is_read()
     ensures { PrintedArrayIsRead }
+{}
+
+/// What `read_term` and `read_array` read of a text has names that the lexer takes, and the scope declares each of its
+/// variables with its sort.
+pub fn read_is_declared()
+    ensures term { ReadIsDeclared }
+    ensures array { ReadArrayIsDeclared }
+{}
+
+/// What `read_term` reads of a text, in a scope of widths from 1 to 128, it reads back from what `print_term` prints of it,
+/// as the same term and up to the end; and what is printed is cut into the words of the term, and is UTF-8, so that it is
+/// printed byte for byte. The same holds of what `read_array` reads and `print_array` prints.
+pub fn read_is_read_back()
+    ensures term { ReadIsReadBack }
+    ensures term_cut { ReadIsCutBack }
+    ensures array { ReadArrayIsReadBack }
+    ensures array_cut { ReadArrayIsCutBack }
 {}

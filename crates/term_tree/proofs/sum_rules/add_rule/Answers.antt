@@ -1,12 +1,13 @@
 use Rattle.std.proofs.Common.{◌≡◌, None, rules, ◌∙◌}
 use Rattle.term_tree.specs.Shapes.{literal_of}
-use Rattle.term_tree.proofs.CodeLemmas.{difference_at_open}
-use Rattle.term_tree.proofs.rules.sub_rule.Goals as goal
+use Rattle.term_tree.proofs.CodeLemmas.{sum_at_open}
+use Rattle.term_tree.proofs.sum_rules.add_rule.Goals as goal
 
--- src/rules.rt:324:1
+-- src/rules.rt:264:1
 pub returns-in-None : goal.returns-in-None
 returns-in-None g c =
     let x = g.N.Nodes.tree c.args.nodes.now c.args.x in
     let y = g.N.Nodes.tree c.args.nodes.now c.args.y in
+    let hx : literal_of x ≡ None = search rules in
     let hy : literal_of y ≡ None = search rules in
-    record { value = c.sub_open.ensures.value ∙ difference_at_open x y c.requires.open hy }
+    record { value = c.add_open.ensures.value ∙ sum_at_open x y hx hy }
