@@ -1,6 +1,7 @@
 -- Bit vectors: which values there are, and the table of the operators' widths and values, in whole numbers.
 use Rattle.std.specs.Prelude.{ℕ, ◌+◌, ◌-◌, ◌*◌, ◌/◌, ◌%◌, ◌^◌, ◌<◌, ◌≤◌, ℤ, pos, negsuc, Bool, not, ◌&&◌, if◌then◌else◌, List, [], ◌∷◌, map, Option, Some, None, unwrap_or, nat_eq, nat_lt, nat_le, int_lt, int_le, int_div, int_rem, bit_and, bit_or, bit_xor}
 use Rattle.std.specs.Int.{int_shr}
+use Rattle.std.specs.List.{list_all}
 use Rattle.bv_bits.specs.declared.Bits.{Bits}
 use Rattle.bv_bits.specs.declared.Op.{Op}
 use Rattle.bv_bits.specs.declared.Op.TheVariants.{Not, Neg, And, Or, Xor, Imp, Add, Sub, Mul, UDiv, URem, SDiv, SRem, Shl, LShr, AShr, Eq, Ne, ULt, ULe, UGt, UGe, SLt, SLe, SGt, SGe, Concat, Extract, ZExt, SExt, Ite}
@@ -11,6 +12,10 @@ use Rattle.bv_bits.specs.declared.Op.TheVariants.{Not, Neg, And, Or, Xor, Imp, A
 pub record IsWidth (w : ℕ) : Type 0 where
   pub positive : 0 < w
   pub at_most : w ≤ 128
+
+-- the same as a test
+abbrev pub is_width : ℕ → Bool
+is_width w = nat_lt 0 w && nat_le w 128
 
 -- a value: a width from 1 to 128, and a number below 2 ^ width
 pub record IsBits (b : Bits) : Type 0 where
@@ -107,7 +112,7 @@ relation w m = some_if (nat_eq w m) 1
 abbrev pub shift : ℕ → ℕ → Option ℕ
 shift w m = Some w
 
--- the width of what the operator gives at arguments of these widths
+-- the width of what the operator gives at arguments of these widths, each the width of a bit vector
 abbrev pub result_width_of : Op → List ℕ → Option ℕ
 result_width_of Not = one_width Some
 result_width_of Neg = one_width Some
@@ -140,6 +145,10 @@ result_width_of (Extract hi lo) = one_width (λ w. some_if (nat_le lo hi && nat_
 result_width_of (ZExt to) = one_width (λ w. some_if (nat_le w to && nat_le to 128) to)
 result_width_of (SExt to) = one_width (λ w. some_if (nat_le w to && nat_le to 128) to)
 result_width_of Ite = three_widths (λ t w m. some_if (nat_eq t 1 && nat_eq w m) w)
+
+-- the same, and none where there are no bit vectors of one of these widths
+abbrev pub checked_width_of : Op → List ℕ → Option ℕ
+checked_width_of op ws = if list_all is_width ws then result_width_of op ws else None
 
 -- ---- the table: values. w and m are the widths as above, x and y the numbers of the first and the second argument
 

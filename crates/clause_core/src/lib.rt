@@ -11,8 +11,6 @@ pub mod laws;
 mod lits;
 mod marks;
 mod said;
-#[cfg(test)]
-mod tests;
 mod trail;
 
 pub use check::check_cert;
@@ -21,7 +19,7 @@ pub use marks::Marks;
 use sqlite_items::Items;
 
 /// The name of a bit.
-#[derive(Clone, Copy, Debug, PartialEq, Eq, Hash)]
+#[derive(Clone, Copy, PartialEq, Eq, Hash)]
 pub enum BitName {
     /// The bit that is always true.
     Truth,
@@ -31,14 +29,14 @@ pub enum BitName {
 }
 
 /// A literal: a bit is 1 where `on` is true, else it is 0.
-#[derive(Clone, Copy, Debug, PartialEq, Eq, Hash)]
+#[derive(Clone, Copy, PartialEq, Eq, Hash)]
 pub struct Lit {
     pub on: bool,
     pub of: BitName,
 }
 
 /// The name of a clause.
-#[derive(Clone, Copy, Debug, PartialEq, Eq, Hash)]
+#[derive(Clone, Copy, PartialEq, Eq, Hash)]
 pub enum Hint {
     /// The always true bit is 1.
     Truth,
@@ -58,14 +56,14 @@ pub enum Hint {
 }
 
 /// A clause, which is the set of its literals, and the names of the clauses that it follows from, in order.
-#[derive(Debug, Drop)]
+#[derive(Drop)]
 pub struct CertStep {
     pub clause: Items<Lit>,
     pub hints: Items<Hint>,
 }
 
 /// A certificate: its steps, numbered from 0.
-#[derive(Debug, Drop)]
+#[derive(Drop)]
 pub struct Cert {
     pub steps: Items<CertStep>,
 }

@@ -10,7 +10,7 @@ use std::alloc::Global;
 use std::marker::Model;
 
 /// Room for the literals that are true in one step, which contracts see as their number.
-#[derive(Debug, Drop)]
+#[derive(Drop)]
 pub struct Marks {
     pub(crate) trail: Trail,
 }

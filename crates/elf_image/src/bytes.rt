@@ -1,4 +1,4 @@
-// Bytes by address, as segments of a file give them.
+//! Bytes by address, as segments of a file give them.
 
 ghost use Rattle.std.specs.Prelude.{◌≡◌, ◌+◌, ◌*◌, ◌^◌, ◌<◌, ◌≤◌, All, AllPairs, IfSome, nat_lt};
 ghost use Rattle.std.specs.FinMap.{get};

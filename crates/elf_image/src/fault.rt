@@ -1,4 +1,4 @@
-// The refusals of a file.
+//! The refusals of a file.
 
 use lex_core::NoMemory;
 use std::alloc::{AllocError, AllocFailed};

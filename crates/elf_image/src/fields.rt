@@ -1,4 +1,4 @@
-// The fields of an ELF-64 file, each by its name in the ELF-64 object file format. All numbers are little-endian.
+//! The fields of an ELF-64 file, each by its name in the ELF-64 object file format. All numbers are little-endian.
 
 ghost use Rattle.std.specs.Prelude.{◌≡◌, ◌+◌, ◌≤◌, length};
 ghost use Rattle.elf_image.specs.Fields as field;

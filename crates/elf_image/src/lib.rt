@@ -10,8 +10,6 @@ mod loading;
 mod overlap;
 mod segment;
 mod symbols;
-#[cfg(test)]
-mod tests;
 
 pub use fault::ImageFault;
 pub use image::Image;

@@ -1,4 +1,4 @@
-// The image of a file, or its first refusal.
+//! The image of a file, or its first refusal.
 
 ghost use Rattle.std.specs.Prelude.{◌≡◌, ◌≤◌, ◌<◌, AllPairs, All, Ok, IfOk, IfErr, length, nat_lt};
 ghost use Rattle.elf_image.specs.declared.fault.ImageFault.TheVariants as fault;

@@ -1,4 +1,4 @@
-// Which segments share an address. They are compared in the order of their addresses, and not each with each.
+//! Which segments share an address. They are compared in the order of their addresses, and not each with each.
 
 ghost use Rattle.std.specs.Prelude.{◌≡◌, ◌≤◌, ◌<◌, ◌&&◌, ℕ, All, AllPairs, IfOk, IfErr, MatchBool, IfNone, Some, None, length, nat_lt, slice_index_or};
 ghost use Rattle.std.specs.List.Sorted.{IsNonDecreasingBy, IsPermutation};

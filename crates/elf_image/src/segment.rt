@@ -1,4 +1,4 @@
-// Segments, and the program headers that they are read from.
+//! Segments, and the program headers that they are read from.
 
 ghost use Rattle.std.specs.Prelude.{◌≡◌, ◌+◌, ◌*◌, ◌^◌, ◌≤◌, ◌<◌, ◌||◌, length, nat_lt, IfOk, IfErr, OnOk};
 ghost use Rattle.std.specs.List.{sum_by};

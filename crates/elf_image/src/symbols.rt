@@ -1,4 +1,4 @@
-// Symbol tables, and the look-up of a name in them.
+//! Symbol tables, and the look-up of a name in them.
 
 ghost use Rattle.std.specs.Prelude.{◌≡◌, ◌≢◌, ◌+◌, ◌*◌, ◌≤◌, ℕ, All, IfOk, IfErr, IfSome, MatchOption, Some, None, length, drop, bytes_eq, is_some};
 ghost use Rattle.std.specs.List.{flat_map};

@@ -58,14 +58,6 @@ IsWholeAnswer store name limit (Err fault.TooLong) = ToldFile store name (λ fil
 IsWholeAnswer store name limit (Err fault.Failed) = Unit {0}
 IsWholeAnswer store name limit (Err fault.NoMemory) = Unit {0}
 
--- the same causes for a whole read
-abbrev pub WholeHasCause : Result (Vec ℕ Global) InFault → ℕ → ℕ → ℕ → ℕ → Type 0
-WholeHasCause (Ok text) missing missing' faults faults' = Unit {0}
-WholeHasCause (Err fault.Missing) missing missing' faults faults' = Rose missing missing'
-WholeHasCause (Err fault.Failed) missing missing' faults faults' = Rose faults faults'
-WholeHasCause (Err fault.TooLong) missing missing' faults faults' = Unit {0}
-WholeHasCause (Err fault.NoMemory) missing missing' faults faults' = Unit {0}
-
 -- the store is told, and has a file of that name that is longer than the limit
 pub record ToldLonger (store : Option Store) (name : List ℕ) (limit : ℕ) : Type 0 where
   pub files : Store

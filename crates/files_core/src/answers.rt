@@ -1,4 +1,5 @@
-// What reads and writes answer.
+//! What reads and writes answer.
+
 use thiserror::Error;
 
 /// What one read of a file gives.

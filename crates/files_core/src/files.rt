@@ -1,15 +1,11 @@
-// Files that are read a piece at a time, and the reading of a whole file.
+//! Files that are read a piece at a time.
 
-ghost use Rattle.std.specs.Prelude.{◌≡◌, ◌≤◌, ℕ, Option, IfOk, vec_len};
+ghost use Rattle.std.specs.Prelude.{◌≡◌, ◌≤◌, ℕ, Option};
 ghost use Rattle.files_core.specs.Counts.{IsCount};
-ghost use Rattle.files_core.specs.Reads.{IsReadAnswer, ReadHasCause, IsWholeAnswer, WholeHasCause, ToldLonger, IsAnswerToLonger};
+ghost use Rattle.files_core.specs.Reads.{IsReadAnswer, ReadHasCause};
 ghost use Rattle.files_core.specs.Store.{Store};
 
-use crate::answers::{InFault, ReadAnswer};
-use std::alloc::Global;
-
-/// Bytes that a whole read asks for at a time.
-const PIECE: usize = 65536;
+use crate::answers::ReadAnswer;
 
 /// Files by their names. A caller reads a file from a place on, as many bytes as it has room for.
 pub trait Files {
@@ -35,42 +31,4 @@ pub trait Files {
         ensures faults { faults self.old ≤ faults self.new }
         ensures missing { missing self.old ≤ missing self.new }
         ensures ends { IsCount (faults self.new) × IsCount (missing self.new) };
-}
-
-/// All bytes of the file of that name, if there are at most `limit`.
-///
-/// `TooLong` comes as soon as byte `limit + 1` was got. `Missing` and `Failed` are handed on from the read that gave
-/// them, so their count rose in this call. `NoMemory` comes from a read, or where the bytes find no room.
-pub fn read_all<F: Files>(
-    alloc: Global,
-    files: &mut F,
-    name: &str,
-    limit: u64,
-) -> Result<Vec<u8>, InFault>
-    ensures answer { IsWholeAnswer (F.store files.old) name.now limit result }
-    ensures longer { ToldLonger (F.store files.old) name.now limit → IsAnswerToLonger result }
-    ensures within { IfOk result (λ text. vec_len text ≤ limit) }
-    ensures cause { WholeHasCause result (F.missing files.old) (F.missing files.new) (F.faults files.old) (F.faults files.new) }
-    ensures store { F.store files.new ≡ F.store files.old }
-    ensures faults { F.faults files.old ≤ F.faults files.new }
-    ensures missing { F.missing files.old ≤ F.missing files.new }
-{
-    let Ok(mut buf) = vec![in alloc; 0u8; PIECE] else {
-        return Err(InFault::NoMemory);
-    };
-    let mut text = Vec::new(alloc);
-    while text.len() as u64 <= limit {
-        match files.read_at(name, text.len() as u64, &mut buf) {
-            ReadAnswer::Got(0) => return Ok(text),
-            ReadAnswer::Got(count) => {
-                if text.extend_from_slice(&buf[..count]).is_err() {
-                    return Err(InFault::NoMemory);
-                }
-            }
-            ReadAnswer::Missing => return Err(InFault::Missing),
-            ReadAnswer::Failed => return Err(InFault::Failed),
-            ReadAnswer::NoMemory => return Err(InFault::NoMemory),
-        }
-    }
-    Err(InFault::TooLong)
 }

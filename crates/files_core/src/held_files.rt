@@ -1,4 +1,4 @@
-// Files that are held in memory.
+//! Files that are held in memory.
 
 ghost use Rattle.std.specs.Prelude.{◌≡◌, ◌≤◌, ℕ, List, Contains, MatchBool, MatchOption, IfOk, Some, None, min, length, take, drop, bytes_eq};
 ghost use Rattle.files_core.specs.Counts.{IsCount};
@@ -13,7 +13,7 @@ use std::alloc::Global;
 use std::marker::Model;
 
 /// A file in memory, which contracts see as its name and its bytes.
-#[derive(Debug, Drop)]
+#[derive(Drop)]
 pub struct File {
     name: Name,
     bytes: Vec<u8>,
@@ -96,7 +96,7 @@ pub(crate) fn is_listed(numbers: &[u64], number: u64) -> bool
 /// Files in memory whose reads don't fail. The store is told, and the count of faults is always 0.
 ///
 /// A read gives as many bytes as there are and the buffer takes, and `Missing` where no file has the name.
-#[derive(Debug, Drop)]
+#[derive(Drop)]
 pub struct HonestFiles {
     files: Vec<File>,
     missing: u64,
@@ -151,7 +151,7 @@ impl Files for HonestFiles {
 /// A read whose number is chosen answers `Failed`, whether the name is there or not. Each other read gives as many
 /// bytes as there are and the buffer takes, and `Missing` where no file has the name. A read with an empty buffer has
 /// a number too. The number of the read and both counts stop at 2^64 - 1.
-#[derive(Debug, Drop)]
+#[derive(Drop)]
 pub struct MemFiles {
     files: Vec<File>,
     failing: Vec<u64>,

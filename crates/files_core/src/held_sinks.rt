@@ -1,4 +1,4 @@
-// Bytes that are kept in memory.
+//! Bytes that are kept in memory.
 
 ghost use Rattle.std.specs.Prelude.{◌≡◌, ◌≢◌, ◌≤◌, ◌<◌, ℕ, List, [], ◌++◌, Contains, IfOk, OnOk, OnErr, Some, min, length, take};
 ghost use Rattle.files_core.specs.Counts.{IsCount};
@@ -13,7 +13,7 @@ use std::alloc::Global;
 use std::marker::Model;
 
 /// Keeps all bytes, which are told, and contracts see it as these bytes. The count of faults is always 0.
-#[derive(Debug, Drop)]
+#[derive(Drop)]
 pub struct WholeSink {
     text: Vec<u8>,
 }
@@ -70,7 +70,7 @@ impl Sink for WholeSink {
 ///
 /// A write of no bytes answers `Took(0)`, has no number and changes nothing. The number of the write and the count of
 /// faults stop at 2^64 - 1.
-#[derive(Debug, Drop)]
+#[derive(Drop)]
 pub struct MemSink {
     text: Vec<u8>,
     most: usize,

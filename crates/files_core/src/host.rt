@@ -1,4 +1,4 @@
-// The files and the standard output of the system. They tell no content.
+//! The files and the standard output of the system. They tell no content.
 
 ghost use Rattle.std.specs.Prelude.{◌≡◌, ◌≤◌, None, length};
 ghost use Rattle.std.specs.Io.{ReadsAtMost, WritesAtMost};

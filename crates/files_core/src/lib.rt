@@ -8,13 +8,13 @@ mod held_sinks;
 mod host;
 mod laws;
 mod sink;
-#[cfg(test)]
-mod tests;
+mod whole;
 
 pub use answers::{InFault, OutFault, ReadAnswer, WriteAnswer};
-pub use files::{Files, read_all};
+pub use files::Files;
 pub use held_files::{File, HonestFiles, MemFiles};
 pub use held_sinks::{MemSink, WholeSink};
 pub use host::{HostFiles, HostSink};
 pub use laws::rose_or_at_the_end;
-pub use sink::{Sink, write_all};
+pub use sink::Sink;
+pub use whole::{read_all, write_all};

@@ -1,10 +1,10 @@
-// What takes bytes a piece at a time, and the writing of a whole text.
+//! What takes bytes a piece at a time.
 
-ghost use Rattle.std.specs.Prelude.{◌≡◌, ◌≤◌, ℕ, List, Option, length, IsErrOf};
-ghost use Rattle.files_core.specs.Counts.{IsCount, Rose};
-ghost use Rattle.files_core.specs.Writes.{IsWriteAnswer, WriteHasCause, IsEmptyWrite, IsWholeWrite};
+ghost use Rattle.std.specs.Prelude.{◌≡◌, ◌≤◌, ℕ, List, Option, length};
+ghost use Rattle.files_core.specs.Counts.{IsCount};
+ghost use Rattle.files_core.specs.Writes.{IsWriteAnswer, WriteHasCause, IsEmptyWrite};
 
-use crate::answers::{OutFault, WriteAnswer};
+use crate::answers::WriteAnswer;
 
 /// Takes bytes in order.
 pub trait Sink {
@@ -24,24 +24,4 @@ pub trait Sink {
         ensures cause { WriteHasCause result (faults self.old) (faults self.new) }
         ensures faults { faults self.old ≤ faults self.new }
         ensures ends { IsCount (faults self.new) };
-}
-
-/// Writes the whole text.
-///
-/// After a fault a prefix of the text is written, and no more. `Failed` is handed on from the write that gave it, so
-/// the count of faults rose in this call. `NoMemory` comes from a write alone.
-pub fn write_all<S: Sink>(out: &mut S, text: &[u8]) -> Result<(), OutFault>
-    ensures answer { IsWholeWrite (S.bytes out.old) text.now result (S.bytes out.new) }
-    ensures cause { IsErrOf result OutFault.Failed → Rose (S.faults out.old) (S.faults out.new) }
-    ensures faults { S.faults out.old ≤ S.faults out.new }
-{
-    let mut rest = text;
-    while !rest.is_empty() {
-        match out.write(rest) {
-            WriteAnswer::Took(count) => rest = &rest[count..],
-            WriteAnswer::Failed => return Err(OutFault::Failed),
-            WriteAnswer::NoMemory => return Err(OutFault::NoMemory),
-        }
-    }
-    Ok(())
 }

@@ -6,8 +6,6 @@
 
 pub mod laws;
 mod rows;
-#[cfg(test)]
-mod tests;
 
 ghost use Rattle.std.specs.Prelude.{◌≡◌, ◌<◌, ◌&&◌, ◌||◌};
 ghost use Rattle.gate_tables.specs.Gates.{IsSign, all_hold, sign_at, exclusive, majority, parity, chosen, IsGateOfOne, IsGateOfTwo, IsGateOfThree};

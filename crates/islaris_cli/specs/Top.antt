@@ -1,41 +1,23 @@
--- The words, the files that they name, and what each status says.
-use Rattle.std.specs.Prelude.{◌≡◌, ◌⊎◌, ◌<◌, ◌≤◌, ℕ, List, [], ◌∷◌, Bool, false, ◌==◌, if◌then◌else◌, Option, Some, None, Contains, codes, nat_lt, length, map, String}
-use Rattle.std.specs.List.{list_any}
-use Rattle.std.specs.Str.{bytes_eq}
-use Rattle.std.specs.String.{string_bytes}
-use Rattle.std.specs.declared.alloc.Global.{Global}
+-- The files that the words name, and what each status says.
+use Rattle.std.specs.Prelude.{◌≡◌, ◌⊎◌, ◌<◌, ◌≤◌, ℕ, List, [], ◌∷◌, if◌then◌else◌, Option, Some, None, Contains, codes, nat_lt, length}
+use Rattle.files_core.specs.declared.files.Files as files
+use Rattle.files_core.specs.declared.sink.Sink as sink
 use Rattle.files_core.specs.Counts.{Rose}
 use Rattle.files_core.specs.Store.{Store, file_of}
 use Rattle.files_core.specs.Reads.{ToldNoFile, ToldFile}
 use Rattle.files_core.specs.Writes.{Grows, GrowsByPrefix}
-use Rattle.islaris_cli.specs.Texts.{Text, on_file_text, on_name_text, usage_text}
-use Rattle.islaris_cli.specs.Accepted.{IsAccepted}
-use Rattle.islaris_cli.specs.Verdict.{Row, Verdict, verdict, accept, refuse, bad_input, beyond}
-use Rattle.islaris_cli.specs.declared.top.Status.{Status}
-use Rattle.islaris_cli.specs.declared.top.Status.TheVariants as kind
+use Rattle.command_words.specs.Words.{row_of}
+use Rattle.constants_text.specs.Texts.{on_file_text, on_name_text, usage_text}
+use Rattle.lex_core.specs.Classes.{Text}
+use Rattle.constants_check.specs.Accepted.{IsAccepted}
+use Rattle.constants_check.specs.Verdict.{verdict}
+use Rattle.report_text.specs.Outcome.{Said, said_of, status_number}
+use Rattle.report_text.specs.declared.numbers.TheConstants.{SAIL_LIMIT, IMAGE_LIMIT, PROOF_LIMIT, TEXT_TOO_LONG, TOO_LARGE}
+use Rattle.report_text.specs.Names.{Row}
+use Rattle.report_text.specs.declared.outcome.Status.{Status}
+use Rattle.report_text.specs.declared.outcome.Status.TheVariants as kind
 use Rattle.islaris_cli.specs.declared.top.Halt.{Halt}
 use Rattle.islaris_cli.specs.declared.top.Halt.TheVariants as halt
-
--- ---- the words
-
--- the words' bytes
-abbrev pub words_of : List (String Global) → List Text
-words_of words = map string_bytes words
-
--- a word that begins with `-`
-abbrev pub is_dashed : Text → Bool
-is_dashed [] = false
-is_dashed (b ∷ word) = b == 45
-
--- the names behind the word `check`, where there are three
-abbrev pub names_behind : List Text → Option Row
-names_behind (command ∷ sail ∷ image ∷ proof ∷ []) =
-    if bytes_eq command (codes "check") then Some (record { sail = sail; image = image; proof = proof }) else None
-names_behind words = None
-
--- the words are `check SAIL IMAGE PROOF`, and none begins with `-`
-abbrev pub row_of : List Text → Option Row
-row_of words = if list_any is_dashed words then None else names_behind words
 
 -- ---- the files
 
@@ -46,13 +28,13 @@ pub record Source : Type 0 where
   pub number : ℕ
 
 abbrev pub sail_source : Row → Source
-sail_source row = record { name = row.sail; limit = 1048576; number = 9 }
+sail_source row = record { name = row.sail; limit = SAIL_LIMIT; number = TEXT_TOO_LONG }
 
 abbrev pub image_source : Row → Source
-image_source row = record { name = row.image; limit = 16777216; number = 22 }
+image_source row = record { name = row.image; limit = IMAGE_LIMIT; number = TOO_LARGE }
 
 abbrev pub proof_source : Row → Source
-proof_source row = record { name = row.proof; limit = 16777216; number = 9 }
+proof_source row = record { name = row.proof; limit = PROOF_LIMIT; number = TEXT_TOO_LONG }
 
 -- the files in the order in which they are read
 abbrev pub sources : Row → List Source
@@ -77,6 +59,15 @@ pub record Reading : Type 0 where
   pub faults : ℕ
   pub faults' : ℕ
 
+abbrev pub reading : {F : Type 0} → files.Ghosts F → F → F → Reading
+reading counts before after = record {
+  store = counts.store before;
+  missing = counts.missing before;
+  missing' = counts.missing after;
+  faults = counts.faults before;
+  faults' = counts.faults after;
+}
+
 -- a file that can't be read stops the call, with this status and this text
 abbrev pub Stops : Status → Text → Reading → Source → Type 0
 Stops kind.Missing text r source =
@@ -90,48 +81,24 @@ Stops kind.Words text r source = ⊥
 Stops kind.Input text r source = ⊥
 
 -- one of the files stops the call, and those before it were read
-abbrev pub StopsAmong : Status → Text → Reading → List Source → Type 0
-StopsAmong status text r [] = ⊥
-StopsAmong status text r (source ∷ rest) = Stops status text r source ⊎ ((read : Text) × IsRead r.store source read × StopsAmong status text r rest)
+abbrev pub StopsAmong : Said → Reading → List Source → Type 0
+StopsAmong said r [] = ⊥
+StopsAmong said r (source ∷ rest) = Stops said.status said.text r source ⊎ ((read : Text) × IsRead r.store source read × StopsAmong said r rest)
 
 -- ---- the answer
 
 -- the three texts were read, and this is said of them
-pub record IsJudged (store : Option Store) (row : Row) (said : Verdict) : Type 0 where
+pub record IsJudged (store : Option Store) (row : Row) (said : Said) : Type 0 where
   pub sail : Text
   pub image : Text
   pub proof : Text
   pub read : AreRead store row sail image proof
   pub judged : verdict row sail image proof ≡ said
 
--- the status that says so
-abbrev pub status_of : Verdict → Status
-status_of (accept text) = kind.Accepted
-status_of (refuse text) = kind.Refused
-status_of (bad_input text) = kind.Input
-status_of (beyond text) = kind.Limit
-
--- the text of it
-abbrev pub text_of : Verdict → Text
-text_of (accept text) = text
-text_of (refuse text) = text
-text_of (bad_input text) = text
-text_of (beyond text) = text
-
--- a status with its text, and why it is the answer: the words are no command, or something is said of the three texts, or a file stops the call
-abbrev pub Answers : Option Row → Status → Text → Reading → Type 0
-Answers None status text r = (status ≡ kind.Words) × (text ≡ usage_text)
-Answers (Some row) status text r =
-    ((said : Verdict) × IsJudged r.store row said × (status ≡ status_of said) × (text ≡ text_of said)) ⊎ StopsAmong status text r (sources row)
-
-abbrev pub number_of : Status → ℕ
-number_of kind.Accepted = 0
-number_of kind.Refused = 1
-number_of kind.Words = 2
-number_of kind.Input = 3
-number_of kind.Missing = 4
-number_of kind.ReadFault = 5
-number_of kind.Limit = 7
+-- what is said, and why it is the answer: the words are no command, or it is said of the three texts, or a file stops the call
+abbrev pub Answers : Option Row → Said → Reading → Type 0
+Answers None said r = (said.status ≡ kind.Words) × (said.text ≡ usage_text)
+Answers (Some row) said r = IsJudged r.store row said ⊎ StopsAmong said r (sources row)
 
 -- what the sink counts and tells, before and after a call
 pub record Writing : Type 0 where
@@ -140,17 +107,24 @@ pub record Writing : Type 0 where
   pub faults : ℕ
   pub faults' : ℕ
 
+abbrev pub writing : {S : Type 0} → sink.Ghosts S → S → S → Writing
+writing counts before after = record {
+  bytes = counts.bytes before;
+  bytes' = counts.bytes after;
+  faults = counts.faults before;
+  faults' = counts.faults after;
+}
+
 -- an answer was wholly written, and this is its number
 pub record Wrote (n : ℕ) (row : Option Row) (r : Reading) (w : Writing) : Type 0 where
-  pub status : Status
-  pub text : Text
-  pub why : Answers row status text r
-  pub number : n ≡ number_of status
-  pub grown : Grows w.bytes text w.bytes'
+  pub said : Said
+  pub why : Answers row said r
+  pub number : n ≡ status_number said.status
+  pub grown : Grows w.bytes said.text w.bytes'
 
 -- nothing was written, or a prefix of an answer's text
 abbrev pub WroteSome : Option Row → Reading → Writing → Type 0
-WroteSome row r w = (w.bytes' ≡ w.bytes) ⊎ ((status : Status) × (text : Text) × Answers row status text r × GrowsByPrefix w.bytes text w.bytes')
+WroteSome row r w = (w.bytes' ≡ w.bytes) ⊎ ((said : Said) × Answers row said r × GrowsByPrefix w.bytes said.text w.bytes')
 
 -- the number that the call answers, and why: an answer was written, or a write failed and the sink counted it, or memory was wanting
 abbrev pub HasCause : ℕ → Option Row → Reading → Writing → Type 0
@@ -159,7 +133,7 @@ HasCause n row r w = Wrote n row r w ⊎ ((n ≡ 6) × Rose w.faults w.faults' �
 -- ---- what single statuses say
 
 -- something is said of the three texts, and its text was wholly written
-pub record Tells (make : Text → Verdict) (words : List Text) (store : Option Store) (before after : Option Text) : Type 0 where
+pub record Tells (make : Text → Said) (words : List Text) (store : Option Store) (before after : Option Text) : Type 0 where
   pub row : Row
   pub on_row : row_of words ≡ Some row
   pub text : Text
@@ -202,13 +176,8 @@ pub record TellsReadFault (words : List Text) (before after : Option Text) : Typ
 
 -- ---- the exact answer over told files
 
--- a status and its text
-pub record Told : Type 0 where
-  pub status : Status
-  pub text : Text
-
 -- what goes on with a file within its limit, and else what the missing or the long file gives
-abbrev pub with_file : Option Text → Source → (Text → Told) → Told
+abbrev pub with_file : Option Text → Source → (Text → Said) → Said
 with_file None source go = record { status = kind.Missing; text = on_name_text (codes "missing") source.name }
 with_file (Some file) source go =
     if nat_lt source.limit (length file)
@@ -216,17 +185,17 @@ with_file (Some file) source go =
     else go file
 
 -- the answer over told files: the first file that is missing or too long, or what is said of the three texts
-abbrev pub answer_over : Store → Row → Told
+abbrev pub answer_over : Store → Row → Said
 answer_over files row =
     with_file (file_of files row.sail) (sail_source row) (λ sail.
     with_file (file_of files row.image) (image_source row) (λ image.
     with_file (file_of files row.proof) (proof_source row) (λ proof.
-    let said = verdict row sail image proof in record { status = status_of said; text = text_of said })))
+    verdict row sail image proof)))
 
 -- the call gives that answer, wholly written, where no read and no write fails and memory suffices
-abbrev pub IsExact : ℕ → Told → Reading → Writing → Type 0
-IsExact n told r w =
-    ((n ≡ number_of told.status) × Grows w.bytes told.text w.bytes')
+abbrev pub IsExact : ℕ → Said → Reading → Writing → Type 0
+IsExact n said r w =
+    ((n ≡ status_number said.status) × Grows w.bytes said.text w.bytes')
     ⊎ ((n ≡ 5) × Rose r.faults r.faults') ⊎ ((n ≡ 6) × Rose w.faults w.faults') ⊎ (n ≡ 8)
 
 -- ---- the parts of the call
@@ -238,12 +207,12 @@ HaltsAt halt.NoMemory r source = Unit {0}
 
 -- one of the files stops the call, or memory was wanting
 abbrev pub IsHalt : Halt → Reading → List Source → Type 0
-IsHalt (halt.Early a) r among = StopsAmong a.status a.text.items r among
+IsHalt (halt.Early a) r among = StopsAmong (said_of a) r among
 IsHalt halt.NoMemory r among = Unit {0}
 
 -- the number that writing an answer gives
-abbrev pub IsFinished : ℕ → Status → Text → Writing → Type 0
-IsFinished n status text w =
-    ((n ≡ number_of status) × Grows w.bytes text w.bytes')
-    ⊎ ((n ≡ 6) × Rose w.faults w.faults' × GrowsByPrefix w.bytes text w.bytes')
-    ⊎ ((n ≡ 8) × GrowsByPrefix w.bytes text w.bytes')
+abbrev pub IsFinished : ℕ → Said → Writing → Type 0
+IsFinished n said w =
+    ((n ≡ status_number said.status) × Grows w.bytes said.text w.bytes')
+    ⊎ ((n ≡ 6) × Rose w.faults w.faults' × GrowsByPrefix w.bytes said.text w.bytes')
+    ⊎ ((n ≡ 8) × GrowsByPrefix w.bytes said.text w.bytes')

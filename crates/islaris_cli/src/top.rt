@@ -1,65 +1,25 @@
-// The top call: the words, the files, the verdict, and the writing of its text.
+//! The top call: the words, the files that they name, the verdict, and the writing of its text.
 
-ghost use Rattle.std.specs.Prelude.{◌≡◌, ◌≤◌, ◌⊎◌, ℕ, List, [], ◌∷◌, Bool, Option, Contains, MatchOption, IfOk, IfErr, Some, None};
-ghost use Rattle.std.specs.List.{list_any};
+ghost use Rattle.std.specs.Prelude.{◌≡◌, ◌≤◌, ◌⊎◌, IfOk, IfErr, Some, None};
 ghost use Rattle.files_core.specs.Counts.{Rose};
-ghost use Rattle.files_core.specs.Reads.{ToldNoFile};
 ghost use Rattle.files_core.specs.Store.{Store};
 ghost use Rattle.files_core.specs.Writes.{Grows};
-ghost use Rattle.islaris_cli.specs.Texts.{usage_text};
-ghost use Rattle.islaris_cli.specs.Verdict.{Row, refuse, bad_input, beyond, row_named, verdict_of};
-ghost use Rattle.islaris_cli.specs.Top.{words_of, is_dashed, row_of, sources, IsRead, AreRead, HaltsAt, IsHalt, Answers, status_of, text_of, number_of, IsFinished, HasCause, WroteSome, Tells, TellsAccepted, TellsLimit, TellsMissing, TellsReadFault, answer_over, IsExact};
+ghost use Rattle.constants_text.specs.Texts.{usage_text};
+ghost use Rattle.report_text.specs.Outcome.{bad_input, beyond, refuse, said_of};
+ghost use Rattle.report_text.specs.Names.{Row, row_named};
+ghost use Rattle.islaris_cli.specs.Top.{reading, writing, sources, IsRead, AreRead, HaltsAt, IsHalt, Answers, IsFinished, HasCause, Tells, TellsAccepted, TellsLimit, TellsMissing, TellsReadFault, answer_over, IsExact};
+ghost use Rattle.command_words.specs.Words.{words_of, row_of};
 
-use crate::command_words::{row, spelled};
-use crate::judge::{Answer, Names, judge};
-use crate::texts::{on_file, on_name, usage};
+use command_words::{row, spelled};
+use constants_check::judge;
+use constants_text::{on_file, on_name, usage};
 use files_core::{Files, InFault, OutFault, Sink, read_all, write_all};
 use lex_core::NoMemory;
+use report_text::numbers::{
+    IMAGE_LIMIT, PROOF_LIMIT, SAIL_LIMIT, TEXT_TOO_LONG, TOO_LARGE, WANT_OF_MEMORY, WRITE_FAULT,
+};
+use report_text::{Names, Outcome, Status};
 use std::alloc::Global;
-
-/// What is answered where memory is wanting.
-pub const WANT_OF_MEMORY: u8 = 8;
-
-/// Most bytes of a Sail text, and the number of its limit.
-const SAIL_LIMIT: u64 = 1048576;
-
-const SAIL_NUMBER: u32 = 9;
-
-/// Most bytes of an image, and the number of its limit.
-const IMAGE_LIMIT: u64 = 16777216;
-
-const IMAGE_NUMBER: u32 = 22;
-
-/// Most bytes of a proof file, and the number of its limit.
-const PROOF_LIMIT: u64 = 16777216;
-
-const PROOF_NUMBER: u32 = 9;
-
-/// What an answer's number says, apart from the faults of writing and want of memory.
-#[derive(Clone, Copy, Debug, PartialEq, Eq)]
-pub enum Status {
-    /// The command's answer was wholly written.
-    Accepted,
-    /// A rule of checking fails.
-    Refused,
-    /// The words are no command.
-    Words,
-    /// An input can't be read.
-    Input,
-    /// A file isn't there.
-    Missing,
-    /// A read failed.
-    ReadFault,
-    /// A limit is passed.
-    Limit,
-}
-
-/// A status and the text that is to be written.
-#[derive(Drop)]
-pub struct Outcome {
-    pub status: Status,
-    pub text: Vec<u8>,
-}
 
 /// An outcome before its time, or want of memory.
 #[derive(Drop)]
@@ -78,7 +38,7 @@ impl From<NoMemory> for Halt {
     }
 }
 
-// The texts of the three files.
+/// The texts of the three files.
 #[derive(Drop)]
 struct Texts {
     sail: Vec<u8>,
@@ -86,7 +46,7 @@ struct Texts {
     proof: Vec<u8>,
 }
 
-// The whole file, if it is there and has at most so many bytes.
+/// The whole file, if it is there and has at most so many bytes.
 fn read_named<F: Files>(
     alloc: Global,
     files: &mut F,
@@ -95,13 +55,7 @@ fn read_named<F: Files>(
     number: u32,
 ) -> Result<Vec<u8>, Halt>
     ensures read { IfOk result (λ text. IsRead (F.store files.old) (record { name = name.now; limit = limit; number = number }) text.items) }
-    ensures halt { IfErr result (λ h. HaltsAt h (record {
-      store = F.store files.old;
-      missing = F.missing files.old;
-      missing' = F.missing files.new;
-      faults = F.faults files.old;
-      faults' = F.faults files.new;
-    }) (record { name = name.now; limit = limit; number = number })) }
+    ensures halt { IfErr result (λ h. HaltsAt h (reading F.Files files.old files.new) (record { name = name.now; limit = limit; number = number })) }
     ensures store { F.store files.new ≡ F.store files.old }
     ensures faults { F.faults files.old ≤ F.faults files.new }
     ensures missing { F.missing files.old ≤ F.missing files.new }
@@ -125,55 +79,29 @@ fn read_named<F: Files>(
     Err(Halt::Early(Outcome { status, text }))
 }
 
-// The texts of the row's files, read in the order of the words.
+/// The texts of the row's files, read in the order of the words. A halt is handed on as it is: the clause names it.
 fn read_three<F: Files>(alloc: Global, files: &mut F, row: &Names<'_>) -> Result<Texts, Halt>
     ensures read { IfOk result (λ t. AreRead (F.store files.old) (row_named row.now) t.sail.items t.image.items t.proof.items) }
-    ensures halt { IfErr result (λ h. IsHalt h (record {
-      store = F.store files.old;
-      missing = F.missing files.old;
-      missing' = F.missing files.new;
-      faults = F.faults files.old;
-      faults' = F.faults files.new;
-    }) (sources (row_named row.now))) }
+    ensures halt { IfErr result (λ h. IsHalt h (reading F.Files files.old files.new) (sources (row_named row.now))) }
 {
-    let sail = match read_named(alloc, files, row.sail, SAIL_LIMIT, SAIL_NUMBER) {
+    let sail = match read_named(alloc, files, row.sail, SAIL_LIMIT, TEXT_TOO_LONG) {
         Ok(sail) => sail,
         Err(halt) => return Err(halt),
     };
-    let image = match read_named(alloc, files, row.image, IMAGE_LIMIT, IMAGE_NUMBER) {
+    let image = match read_named(alloc, files, row.image, IMAGE_LIMIT, TOO_LARGE) {
         Ok(image) => image,
         Err(halt) => return Err(halt),
     };
-    let proof = match read_named(alloc, files, row.proof, PROOF_LIMIT, PROOF_NUMBER) {
+    let proof = match read_named(alloc, files, row.proof, PROOF_LIMIT, TEXT_TOO_LONG) {
         Ok(proof) => proof,
         Err(halt) => return Err(halt),
     };
     Ok(Texts { sail, image, proof })
 }
 
-// The status that says so, with the text.
-fn outcome_of(answer: Answer) -> Outcome
-    ensures status { result.status ≡ status_of (verdict_of answer) }
-    ensures text { result.text.items ≡ text_of (verdict_of answer) }
-{
-    let (status, text) = match answer {
-        Answer::Accept(text) => (Status::Accepted, text),
-        Answer::Refuse(text) => (Status::Refused, text),
-        Answer::BadInput(text) => (Status::Input, text),
-        Answer::Beyond(text) => (Status::Limit, text),
-    };
-    Outcome { status, text }
-}
-
-// The status and the text that the words come to.
+/// The status and the text that the words come to.
 fn work<F: Files>(alloc: Global, words: &[String], files: &mut F) -> Result<Outcome, NoMemory>
-    ensures { IfOk result (λ a. Answers (row_of (words_of words.now)) a.status a.text.items (record {
-      store = F.store files.old;
-      missing = F.missing files.old;
-      missing' = F.missing files.new;
-      faults = F.faults files.old;
-      faults' = F.faults files.new;
-    })) }
+    ensures { IfOk result (λ a. Answers (row_of (words_of words.now)) (said_of a) (reading F.Files files.old files.new)) }
 {
     let spelled = spelled(alloc, words)?;
     let Some(row) = row(alloc, &spelled)? else {
@@ -184,36 +112,20 @@ fn work<F: Files>(alloc: Global, words: &[String], files: &mut F) -> Result<Outc
         });
     };
     match read_three(alloc, files, &row) {
-        Ok(texts) => {
-            let answer = judge(alloc, &row, &texts.sail, &texts.image, &texts.proof)?;
-            Ok(outcome_of(answer))
-        }
+        Ok(texts) => judge(alloc, &row, &texts.sail, &texts.image, &texts.proof),
         Err(Halt::Early(outcome)) => Ok(outcome),
         Err(Halt::NoMemory) => Err(NoMemory),
     }
 }
 
-// Writes the outcome's text, and gives the number.
+/// Writes the outcome's text, and gives the number.
 fn finish<S: Sink>(out: &mut S, outcome: &Outcome) -> u8
-    ensures { IsFinished result outcome.now.status outcome.now.text.items (record {
-      bytes = S.bytes out.old;
-      bytes' = S.bytes out.new;
-      faults = S.faults out.old;
-      faults' = S.faults out.new;
-    }) }
+    ensures { IsFinished result (said_of outcome.now) (writing S.Sink out.old out.new) }
 {
     match write_all(out, &outcome.text) {
-        Ok(()) => match outcome.status {
-            Status::Accepted => 0,
-            Status::Refused => 1,
-            Status::Words => 2,
-            Status::Input => 3,
-            Status::Missing => 4,
-            Status::ReadFault => 5,
-            Status::Limit => 7,
-        },
-        Err(OutFault::Failed) => 6,
-        Err(OutFault::NoMemory) => 8,
+        Ok(()) => outcome.status.number(),
+        Err(OutFault::Failed) => WRITE_FAULT,
+        Err(OutFault::NoMemory) => WANT_OF_MEMORY,
     }
 }
 
@@ -225,31 +137,9 @@ fn finish<S: Sink>(out: &mut S, outcome: &Outcome) -> u8
 /// faults rose. 6: a write failed, and the sink's count rose; a prefix of the text is written. 8: want of memory, and
 /// nothing or a prefix of the text is written.
 pub fn islaris<F: Files, S: Sink>(alloc: Global, words: &[String], files: &mut F, out: &mut S) -> u8
-    ensures cause { HasCause result (row_of (words_of words.now)) (record {
-      store = F.store files.old;
-      missing = F.missing files.old;
-      missing' = F.missing files.new;
-      faults = F.faults files.old;
-      faults' = F.faults files.new;
-    }) (record {
-      bytes = S.bytes out.old;
-      bytes' = S.bytes out.new;
-      faults = S.faults out.old;
-      faults' = S.faults out.new;
-    }) }
+    ensures cause { HasCause result (row_of (words_of words.now)) (reading F.Files files.old files.new) (writing S.Sink out.old out.new) }
     ensures exact { (held : Store) (row : Row) → F.store files.old ≡ Some held → row_of (words_of words.now) ≡ Some row
-        → IsExact result (answer_over held row) (record {
-          store = F.store files.old;
-          missing = F.missing files.old;
-          missing' = F.missing files.new;
-          faults = F.faults files.old;
-          faults' = F.faults files.new;
-        }) (record {
-          bytes = S.bytes out.old;
-          bytes' = S.bytes out.new;
-          faults = S.faults out.old;
-          faults' = S.faults out.new;
-        }) }
+        → IsExact result (answer_over held row) (reading F.Files files.old files.new) (writing S.Sink out.old out.new) }
     ensures accepted { result ≡ 0 → TellsAccepted (words_of words.now) (F.store files.old) (S.bytes out.old) (S.bytes out.new) }
     ensures refused { result ≡ 1 → Tells refuse (words_of words.now) (F.store files.old) (S.bytes out.old) (S.bytes out.new) }
     ensures words { result ≡ 2 → (row_of (words_of words.now) ≡ None) × Grows (S.bytes out.old) usage_text (S.bytes out.new) }

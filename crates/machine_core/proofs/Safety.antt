@@ -19,7 +19,7 @@ use Rattle.state_core.specs.Claims.{register, register_is, bytes_are, HasBytes, 
 use Rattle.state_core.specs.Devices.{Judged, all_taken, lacks_candidate, write_off, read_off, judge}
 use Rattle.sail_eval.specs.Instr.{Ended, whole, cut}
 use Rattle.sail_eval.specs.Uses.{Use, reads, writes}
-use Rattle.sail_eval.specs.Typing.{width_in}
+use Rattle.sail_types.specs.Typing.{width_in}
 use Rattle.sail_eval.specs.Quiet.{IsMatchFail, IsQuietRun, with_registers, register_in}
 use Rattle.machine_core.specs.Machine.{Machine, pc_of, executed, step, used, step_uses, Stop, at_count, at_exit, at_fault, at_answer, Ran, exit_of, followed, stepped, run}
 use Rattle.machine_core.specs.Program.{machine_of}

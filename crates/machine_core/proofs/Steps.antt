@@ -9,7 +9,7 @@ use Rattle.state_core.specs.declared.kinds.MemStop.TheVariants as mem
 use Rattle.machine_core.specs.Answers.{stopped_at}
 use Rattle.state_core.specs.World.{World, gets, faults, fault}
 use Rattle.state_core.specs.Memory.{fetch}
-use Rattle.sail_eval.specs.declared.value.Outcome.{Outcome}
+use Rattle.sail_values.specs.declared.value.Outcome.{Outcome}
 use Rattle.sail_eval.specs.Agrees.{Ends}
 use Rattle.sail_eval.specs.Instr.{cut}
 use Rattle.machine_core.specs.Machine.{Machine, pc_of, executed, step}

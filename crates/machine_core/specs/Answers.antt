@@ -3,8 +3,8 @@ use Rattle.std.specs.Prelude.{◌≡◌, ◌≤◌, ℕ}
 use Rattle.state_core.specs.World.{World}
 use Rattle.state_core.specs.declared.kinds.MemStop.{MemStop}
 use Rattle.state_core.specs.declared.kinds.MemStop.TheVariants as mem
-use Rattle.sail_eval.specs.declared.value.Outcome.{Outcome}
-use Rattle.sail_eval.specs.declared.value.Outcome.TheVariants as outcome
+use Rattle.sail_values.specs.declared.value.Outcome.{Outcome}
+use Rattle.sail_values.specs.declared.value.Outcome.TheVariants as outcome
 use Rattle.machine_core.specs.declared.machine.Stop.{Stop}
 use Rattle.machine_core.specs.declared.machine.Stop.TheVariants as stop
 use Rattle.machine_core.specs.Machine.{Ran, at_count, at_exit, at_fault, at_answer}

@@ -1,7 +1,7 @@
 -- The machine that a program of the Sail profile is.
 use Rattle.std.specs.Prelude.{List, unwrap_or}
 use Rattle.sail_syntax.specs.Program.{Definition}
-use Rattle.sail_eval.specs.Typing.{pc_number, instr_place, widths_in}
+use Rattle.sail_types.specs.Typing.{pc_number, instr_place, widths_in}
 use Rattle.sail_eval.specs.Instr.{instr_of, uses_of_instr}
 use Rattle.machine_core.specs.Machine.{Machine}
 

@@ -3,7 +3,5 @@
 
 pub mod laws;
 mod machine;
-#[cfg(test)]
-mod tests;
 
 pub use machine::{Ran, Stop, pc_value, run, step};

@@ -5,13 +5,15 @@ ghost use Rattle.std.specs.List.{position};
 ghost use Rattle.state_core.specs.State.{widths_of};
 ghost use Rattle.state_core.specs.World.{world_of};
 ghost use Rattle.sail_eval.specs.Agrees.{Ends};
-ghost use Rattle.sail_eval.specs.Typing.{widths_in};
+ghost use Rattle.sail_types.specs.Typing.{widths_in};
 ghost use Rattle.sail_syntax.specs.View.{program_of};
 ghost use Rattle.machine_core.specs.Answers.{IsRan, stopped_at};
 ghost use Rattle.machine_core.specs.Machine as spec;
 ghost use Rattle.machine_core.specs.Program.{machine_of};
 
-use sail_eval::{Outcome, Typed, execute};
+use sail_eval::execute;
+use sail_types::Typed;
+use sail_values::Outcome;
 use state_core::memory::fetch;
 use state_core::{Answers, DevMap, FaultKind, Log, MemStop, State};
 use std::alloc::Global;

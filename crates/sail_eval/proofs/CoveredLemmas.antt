@@ -4,7 +4,7 @@ use Rattle.std.specs.Prelude.{◌&&◌, is_some}
 use Rattle.std.specs.List.{list_all}
 use Rattle.sail_syntax.specs.Tree.{Text, Tree, node, Form, unit, lit, truth, name, chain, flip, slice, update, call, widen, choose, when, cases, foreach, check, exit, assign, block, Trees, none, some, arm, Cases, no_case, case, Step, binds, holds, does, Steps, done, next}
 use Rattle.sail_syntax.specs.Program.{Definition, order, register, enumeration, signature, function, function_of}
-use Rattle.sail_eval.specs.Covered.{covers_pattern, covers, covers_form, covers_all, covers_arms, covers_step, covers_steps, covers_definition, covers_program}
+use Rattle.sail_types.specs.Covered.{covers_pattern, covers, covers_form, covers_all, covers_arms, covers_step, covers_steps, covers_definition, covers_program}
 use Rattle.sail_eval.specs.Quiet.{is_quiet, is_quiet_form, are_quiet, are_quiet_arms, is_quiet_step, are_quiet_steps, is_quiet_definition, IsQuietProgram}
 use Rattle.std.proofs.lemmas.Bool.{and_parts, and_from}
 

@@ -1,9 +1,9 @@
 -- An instruction ends as the call of its function does.
 use Rattle.std.proofs.Common.{ap}
 use Rattle.state_core.specs.World.{World}
-use Rattle.sail_eval.specs.declared.value.Value.{Value}
-use Rattle.sail_eval.specs.declared.value.Outcome.{Outcome}
-use Rattle.sail_eval.specs.declared.value.Outcome.TheVariants as outcome
+use Rattle.sail_values.specs.declared.value.Value.{Value}
+use Rattle.sail_values.specs.declared.value.Outcome.{Outcome}
+use Rattle.sail_values.specs.declared.value.Outcome.TheVariants as outcome
 use Rattle.sail_eval.specs.Agrees.{Comes, Ends}
 use Rattle.sail_eval.specs.Flow.{Out}
 use Rattle.sail_eval.specs.Instr.{end_of}

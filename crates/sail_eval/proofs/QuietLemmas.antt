@@ -19,19 +19,20 @@ use Rattle.state_core.specs.State.{State, register_of}
 use Rattle.state_core.specs.World.{World, Halt, fault}
 use Rattle.state_core.specs.declared.kinds.FaultKind.{FaultKind}
 use Rattle.state_core.specs.declared.kinds.FaultKind.TheVariants as kind
-use Rattle.sail_eval.specs.declared.value.Slot.{Slot}
-use Rattle.sail_eval.specs.declared.value.Local.{Local}
-use Rattle.sail_eval.specs.declared.value.Local.TheVariants as local
-use Rattle.sail_eval.specs.declared.value.Value.{Value}
-use Rattle.sail_eval.specs.declared.value.Value.TheVariants as value
-use Rattle.sail_eval.specs.Slots.{look, put, has}
-use Rattle.sail_eval.specs.Values.{applied, decides, is_vector}
+use Rattle.sail_values.specs.declared.value.Slot.{Slot}
+use Rattle.sail_values.specs.declared.value.Local.{Local}
+use Rattle.sail_values.specs.declared.value.Local.TheVariants as local
+use Rattle.sail_values.specs.declared.value.Value.{Value}
+use Rattle.sail_values.specs.declared.value.Value.TheVariants as value
+use Rattle.sail_values.specs.Slots.{look, put, has}
+use Rattle.sail_values.specs.Values.{applied, decides, is_vector}
 use Rattle.sail_eval.specs.Flow.{Out, gives, stops, Meaning, after, bind, pure, leaves, within}
-use Rattle.sail_eval.specs.Eval.{register_at, in_register, read_of, read, with_bits, with_value, write, fits, enter, faulty, Calls, eval, eval_form, eval_chain, eval_rest, eval_arms, eval_step, eval_steps, bound, restores, calls_of}
+use Rattle.sail_eval.specs.Eval.{in_register, read_of, read, with_bits, with_value, write, fits, enter, faulty, Calls, eval, eval_form, eval_chain, eval_rest, eval_arms, eval_step, eval_steps, bound, restores, calls_of}
+use Rattle.sail_types.specs.Typing.{register_at}
 use Rattle.sail_eval.specs.Uses.{Use, reads, writes, Using, unused, following, use_of, named, uses, uses_of_form, uses_of_chain, uses_of_rest, uses_of_arms, uses_of_step, uses_of_steps, uses_of_calls}
 use Rattle.sail_eval.specs.Instr.{Ended, whole, cut, end_of, instr_of, uses_of_instr, word_value}
-use Rattle.sail_eval.specs.Typing.{instr_name}
-use Rattle.sail_eval.specs.Covered.{covers_pattern}
+use Rattle.sail_types.specs.Typing.{instr_name}
+use Rattle.sail_types.specs.Covered.{covers_pattern}
 use Rattle.sail_eval.specs.Quiet.{is_quiet, is_quiet_form, are_quiet, are_quiet_arms, is_quiet_step, are_quiet_steps, is_quiet_definition, IsQuietProgram, with_registers, register_in, IsMatchFail, IsQuietRun}
 use Rattle.std.proofs.lemmas.Bool.{and_parts}
 use Rattle.std.proofs.lemmas.List.Quantifiers.{position-Some}

@@ -1,8 +1,8 @@
 -- One turn of a foreach, and the others.
 use Rattle.std.proofs.Common.{◌≡◌, ℕ, suc, ◌+◌, ◌-◌, ◌<◌, List, ap, arith}
 use Rattle.state_core.specs.World.{World}
-use Rattle.sail_eval.specs.declared.value.Slot.{Slot}
-use Rattle.sail_eval.specs.declared.value.Value.{Value}
+use Rattle.sail_values.specs.declared.value.Slot.{Slot}
+use Rattle.sail_values.specs.declared.value.Value.{Value}
 use Rattle.sail_eval.specs.Flow.{Meaning, after}
 use Rattle.sail_eval.specs.Eval.{turns}
 

@@ -9,14 +9,15 @@ use Rattle.state_core.specs.State.{State}
 use Rattle.state_core.specs.World.{world_of}
 use Rattle.state_core.specs.declared.kinds.Answers.{Answers}
 use Rattle.state_core.specs.declared.kinds.Log.{Log}
-use Rattle.sail_eval.specs.declared.value.Slot.{Slot}
-use Rattle.sail_eval.specs.declared.value.Local.{Local}
-use Rattle.sail_eval.specs.declared.value.Local.TheVariants.{Is}
-use Rattle.sail_eval.specs.declared.value.Value.{Value}
-use Rattle.sail_eval.specs.declared.value.Value.TheVariants.{Unit}
-use Rattle.sail_eval.specs.Eval.{register_at, with_value, write}
+use Rattle.sail_values.specs.declared.value.Slot.{Slot}
+use Rattle.sail_values.specs.declared.value.Local.{Local}
+use Rattle.sail_values.specs.declared.value.Local.TheVariants.{Is}
+use Rattle.sail_values.specs.declared.value.Value.{Value}
+use Rattle.sail_values.specs.declared.value.Value.TheVariants.{Unit}
+use Rattle.sail_eval.specs.Eval.{with_value, write}
+use Rattle.sail_types.specs.Typing.{register_at}
 use Rattle.sail_eval.specs.Flow.{gives}
-use Rattle.sail_eval.specs.Slots.{put, has}
+use Rattle.sail_values.specs.Slots.{put, has}
 
 -- a register gets a value of its width
 pub same_widths : (rs : List Bits) (r : ℕ) (b d : Bits) → b.width ≡ (get_or rs r d).width → map width_of (set rs r b) ≡ map width_of rs

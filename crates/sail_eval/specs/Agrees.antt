@@ -1,12 +1,12 @@
 -- What a call of the evaluator answers.
 use Rattle.std.specs.Prelude.{◌≡◌, Result, Ok, Err, List, []}
 use Rattle.state_core.specs.World.{World, fault, lacks_answer}
-use Rattle.sail_eval.specs.declared.value.Slot.{Slot}
-use Rattle.sail_eval.specs.declared.value.Stop.{Stop}
-use Rattle.sail_eval.specs.declared.value.Stop.TheVariants as stop
-use Rattle.sail_eval.specs.declared.value.Value.{Value}
-use Rattle.sail_eval.specs.declared.value.Outcome.{Outcome}
-use Rattle.sail_eval.specs.declared.value.Outcome.TheVariants as outcome
+use Rattle.sail_values.specs.declared.value.Slot.{Slot}
+use Rattle.sail_values.specs.declared.value.Stop.{Stop}
+use Rattle.sail_values.specs.declared.value.Stop.TheVariants as stop
+use Rattle.sail_values.specs.declared.value.Value.{Value}
+use Rattle.sail_values.specs.declared.value.Outcome.{Outcome}
+use Rattle.sail_values.specs.declared.value.Outcome.TheVariants as outcome
 use Rattle.sail_eval.specs.Flow.{Out, gives, stops}
 use Rattle.sail_eval.specs.Instr.{Ended, whole, cut}
 

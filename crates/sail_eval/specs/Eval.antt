@@ -1,9 +1,7 @@
 -- The meaning of expressions, by cases on the expression. It is total: what typing excludes gives unit and changes nothing. So do, for
 -- now, the kinds of expression that `Covered` leaves out.
 use Rattle.std.specs.Prelude.{ℕ, zero, suc, ◌+◌, ◌-◌, Bool, true, false, List, [], ◌∷◌, ◌++◌, reverse, Option, Some, None, nat_eq, bytes_eq, slice_set, ◌&&◌, if◌then◌else◌}
-use Rattle.std.specs.List.{position}
 use Rattle.bv_bits.specs.declared.Bits.{Bits}
-use Rattle.bv_bits.specs.declared.Op.TheVariants as op
 use Rattle.lex_core.specs.declared.name.RegDecl.{RegDecl}
 use Rattle.sail_syntax.specs.Tree.{Text, Tree, node, Form, unit, lit, truth, name, chain, flip, slice, update, call, widen, choose, when, cases, foreach, check, exit, assign, block, Trees, none, some, arm, Cases, no_case, case, Step, binds, holds, does, Steps, done, next}
 use Rattle.sail_syntax.specs.Program.{Definition, order, register, enumeration, signature, function, registers_of}
@@ -15,20 +13,17 @@ use Rattle.state_core.specs.State.{State, register_of}
 use Rattle.state_core.specs.World.{World, fault}
 use Rattle.state_core.specs.declared.kinds.FaultKind.{FaultKind}
 use Rattle.state_core.specs.declared.kinds.FaultKind.TheVariants as kind
-use Rattle.sail_eval.specs.declared.value.Slot.{Slot}
-use Rattle.sail_eval.specs.declared.value.Local.{Local}
-use Rattle.sail_eval.specs.declared.value.Local.TheVariants as local
-use Rattle.sail_eval.specs.declared.value.Value.{Value}
-use Rattle.sail_eval.specs.declared.value.Value.TheVariants as value
-use Rattle.sail_eval.specs.Slots.{look, put, has}
-use Rattle.sail_eval.specs.Values.{nth, is_vector, operate_one, is_true, same, applied, decides}
+use Rattle.sail_values.specs.declared.value.Slot.{Slot}
+use Rattle.sail_values.specs.declared.value.Local.{Local}
+use Rattle.sail_values.specs.declared.value.Local.TheVariants as local
+use Rattle.sail_values.specs.declared.value.Value.{Value}
+use Rattle.sail_values.specs.declared.value.Value.TheVariants as value
+use Rattle.sail_values.specs.Slots.{look, put, has}
+use Rattle.sail_types.specs.Typing.{register_at}
+use Rattle.sail_values.specs.Values.{nth, is_vector, flipped, widened, is_true, same, applied, decides}
 use Rattle.sail_eval.specs.Flow.{Out, gives, stops, Meaning, bind, pure, within}
 
 -- ---- names
-
--- the number of the first register of the name
-abbrev pub register_at : List RegDecl → Text → Option ℕ
-register_at registers x = position (λ r. bytes_eq r.name x) registers
 
 -- the value of a register, if there is one
 abbrev pub in_register : Option ℕ → State → Value
@@ -102,14 +97,6 @@ turns (suc n) i body = bind (body i) (λ _. turns n (i + 1) body)
 -- the body with the foreach variable at a number
 abbrev pub counted : Text → Meaning Value → ℕ → Meaning Value
 counted x body i = within (bind (define x (local.Counts i)) (λ _. body))
-
--- the bits turned round
-abbrev pub flipped : Value → Value
-flipped v = operate_one op.Not v
-
--- the bits widened
-abbrev pub widened : Bool → ℕ → Value → Value
-widened signed to v = if signed then operate_one (op.SExt to) v else operate_one (op.ZExt to) v
 
 -- ---- expressions
 

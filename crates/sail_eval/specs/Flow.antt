@@ -1,7 +1,7 @@
 -- An evaluation that may end early, over locals and a world.
 use Rattle.std.specs.Prelude.{ℕ, ◌-◌, List, length, drop}
 use Rattle.state_core.specs.World.{World, Halt}
-use Rattle.sail_eval.specs.declared.value.Slot.{Slot}
+use Rattle.sail_values.specs.declared.value.Slot.{Slot}
 
 -- what an evaluation comes to: something, the locals and the world; or why it ends early, and the world
 pub data Out (X : Type 0) : Type 0 where

@@ -2,12 +2,12 @@
 use Rattle.std.specs.Prelude.{ℕ, List, [], ◌∷◌}
 use Rattle.sail_syntax.specs.Program.{Definition}
 use Rattle.state_core.specs.World.{World, Halt}
-use Rattle.sail_eval.specs.declared.value.Value.{Value}
-use Rattle.sail_eval.specs.declared.value.Value.TheVariants as value
+use Rattle.sail_values.specs.declared.value.Value.{Value}
+use Rattle.sail_values.specs.declared.value.Value.TheVariants as value
 use Rattle.sail_eval.specs.Flow.{Out, gives, stops}
 use Rattle.sail_eval.specs.Eval.{call_of}
 use Rattle.sail_eval.specs.Uses.{Use, uses_of}
-use Rattle.sail_eval.specs.Typing.{instr_name}
+use Rattle.sail_types.specs.Typing.{instr_name}
 
 -- an instruction ends as a whole, or early
 pub data Ended : Type 0 where

@@ -1,12 +1,7 @@
 pub mod Flow
-pub mod Slots
-pub mod Values
 pub mod Eval
 pub mod Uses
-pub mod Typing
-pub mod Covered
 pub mod Instr
 pub mod Quiet
 pub mod Agrees
 pub mod Inside
-pub mod Checked

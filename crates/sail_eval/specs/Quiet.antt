@@ -6,7 +6,7 @@ use Rattle.sail_syntax.specs.Tree.{Tree, node, Form, unit, lit, truth, name, cha
 use Rattle.sail_syntax.specs.Program.{Definition, order, register, enumeration, signature, function, registers_of}
 use Rattle.state_core.specs.declared.kinds.FaultKind.TheVariants as kind
 use Rattle.state_core.specs.World.{World, fault}
-use Rattle.sail_eval.specs.Covered.{covers_pattern}
+use Rattle.sail_types.specs.Covered.{covers_pattern}
 use Rattle.sail_eval.specs.Instr.{Ended, whole, cut, instr_of, uses_of_instr}
 use Rattle.sail_eval.specs.Uses.{Use, reads, writes}
 

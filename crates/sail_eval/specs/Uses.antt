@@ -5,14 +5,15 @@ use Rattle.sail_syntax.specs.Tree.{Text, Tree, node, Form, unit, lit, truth, nam
 use Rattle.sail_syntax.specs.Program.{Definition, order, register, enumeration, signature, function, registers_of}
 use Rattle.sail_syntax.specs.declared.tree.Infix.{Infix}
 use Rattle.state_core.specs.World.{World}
-use Rattle.sail_eval.specs.declared.value.Slot.{Slot}
-use Rattle.sail_eval.specs.declared.value.Local.{Local}
-use Rattle.sail_eval.specs.declared.value.Local.TheVariants as local
-use Rattle.sail_eval.specs.declared.value.Value.{Value}
-use Rattle.sail_eval.specs.Slots.{look}
-use Rattle.sail_eval.specs.Values.{is_true, applied, decides}
+use Rattle.sail_values.specs.declared.value.Slot.{Slot}
+use Rattle.sail_values.specs.declared.value.Local.{Local}
+use Rattle.sail_values.specs.declared.value.Local.TheVariants as local
+use Rattle.sail_values.specs.declared.value.Value.{Value}
+use Rattle.sail_values.specs.Slots.{look}
+use Rattle.sail_values.specs.Values.{is_true, applied, decides}
 use Rattle.sail_eval.specs.Flow.{Out, gives, stops}
-use Rattle.sail_eval.specs.Eval.{register_at, Calls, fits, enter, eval, eval_step, turn, calls_of, bound}
+use Rattle.sail_eval.specs.Eval.{Calls, fits, enter, eval, eval_step, turn, calls_of, bound}
+use Rattle.sail_types.specs.Typing.{register_at}
 
 -- one use of a register, by its number
 pub data Use : Type 0 where

@@ -1,20 +1,20 @@
+//! What expressions mean: the evaluator, one cycle of functions over the tree.
+
 ghost use Rattle.std.specs.Prelude.{◌≡◌, ◌+◌, ◌-◌, List, [], reverse, map};
 ghost use Rattle.sail_eval.specs.Agrees.{Agrees};
 ghost use Rattle.sail_eval.specs.Eval.{eval, eval_chain, eval_all, eval_arms, eval_step, eval_steps, turns, turn};
 ghost use Rattle.sail_eval.specs.Inside.{calls_in};
-ghost use Rattle.sail_eval.specs.declared.value.Slot.{Slot};
-ghost use Rattle.sail_eval.specs.declared.value.Value.{Value};
+ghost use Rattle.sail_values.specs.declared.value.Slot.{Slot};
+ghost use Rattle.sail_values.specs.declared.value.Value.{Value};
 ghost use Rattle.sail_syntax.specs.View.{tree, trees, choice_of, cases_of, step_of, steps_of};
 ghost use Rattle.state_core.specs.State.{widths_of};
 ghost use Rattle.state_core.specs.World.{world_of};
 
 use crate::names::{bound, enter, fits, read, write};
-use crate::operators::{applied, decides, flipped, is_true, widened};
-use crate::slots::Slots;
 use crate::text::Text;
-use crate::value::{Local, Stop, Value};
 use lex_core::Name;
 use sail_syntax::{Arm, Def, Expr, Infix, Node, Stmt};
+use sail_values::{Local, Slots, Stop, Value, applied, decides, flipped, is_true, widened};
 use sqlite_items::Items;
 use state_core::{FaultKind, State};
 use std::alloc::Global;

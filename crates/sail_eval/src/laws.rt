@@ -2,7 +2,7 @@
 
 ghost use Rattle.std.specs.Prelude.{◌≡◌, ℕ, true, List};
 ghost use Rattle.bv_bits.specs.declared.Bits.{Bits};
-ghost use Rattle.sail_eval.specs.Covered.{covers_program};
+ghost use Rattle.sail_types.specs.Covered.{covers_program};
 ghost use Rattle.sail_eval.specs.Quiet.{IsQuietProgram, IsQuietRun};
 ghost use Rattle.sail_syntax.specs.Program.{Definition};
 

@@ -4,15 +4,7 @@
 mod eval;
 pub mod laws;
 mod names;
-mod operators;
 mod run;
-mod slots;
-#[cfg(test)]
-mod tests;
 mod text;
-mod typed;
-mod value;
 
 pub use run::{call, execute};
-pub use typed::{TypeFault, Typed, check};
-pub use value::{Local, Outcome, Slot, Stop, Value};

@@ -1,30 +1,25 @@
+//! Names: what they stand for, what an assignment changes, what a pattern and a call bind.
+
 ghost use Rattle.std.specs.Prelude.{◌≡◌, [], IfOk, OnOk, IfSome};
 ghost use Rattle.lex_core.specs.declared.name.RegDecl.{RegDecl};
-ghost use Rattle.sail_eval.specs.Eval.{register_at, in_register, with_bits, with_value, read_of, value_of, write, enter, bound, fits};
+ghost use Rattle.sail_eval.specs.Eval.{in_register, with_bits, with_value, read_of, value_of, write, enter, bound, fits};
+ghost use Rattle.sail_types.specs.Typing.{register_at};
 ghost use Rattle.sail_eval.specs.Flow.{gives};
-ghost use Rattle.sail_eval.specs.Slots.{look};
-ghost use Rattle.sail_eval.specs.Values.{nth};
-ghost use Rattle.sail_eval.specs.declared.value.Value.{Value};
+ghost use Rattle.sail_values.specs.Slots.{look};
+ghost use Rattle.sail_values.specs.Values.{nth};
+ghost use Rattle.sail_values.specs.declared.value.Value.{Value};
 ghost use Rattle.state_core.specs.State.{register_of, widths_of};
 ghost use Rattle.state_core.specs.World.{World, world_of};
 ghost use Rattle.state_core.specs.declared.kinds.Answers.{Answers};
 ghost use Rattle.state_core.specs.declared.kinds.Log.{Log};
 
-use crate::operators::{is_vector, same};
-use crate::slots::Slots;
-use crate::value::{Local, Value};
 use bv_bits::Bits;
 use lex_core::{Name, NoMemory, RegDecl};
 use sail_syntax::{Param, Pattern};
+use sail_types::register_at;
+use sail_values::{Local, Slots, Value, is_vector, same};
 use state_core::State;
 use std::alloc::Global;
-
-/// The number of the first register of the name.
-pub fn register_at(registers: &[RegDecl], name: &[u8]) -> Option<usize>
-    ensures { result ≡ register_at registers.now name.now }
-{
-    registers.iter().position(|register| register.name.is(name))
-}
 
 /// The value of a register; nothing of no width where there is no such register.
 fn register_of(state: &State, reg: usize) -> Bits

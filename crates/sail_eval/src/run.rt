@@ -1,3 +1,5 @@
+//! Calls of a program: of a function by its name, and of `instr` on a word.
+
 ghost use Rattle.std.specs.Prelude.{◌≡◌};
 ghost use Rattle.sail_eval.specs.Agrees.{Comes, Ends};
 ghost use Rattle.sail_eval.specs.Eval.{call_of};
@@ -8,10 +10,10 @@ ghost use Rattle.state_core.specs.World.{world_of};
 
 use crate::eval::call_function;
 use crate::text::Text;
-use crate::typed::{INSTR, Typed};
-use crate::value::{Outcome, Stop, Value};
 use bv_bits::Bits;
 use lex_core::Name;
+use sail_types::{INSTR, Typed};
+use sail_values::{Outcome, Stop, Value};
 use state_core::{Answers, DevMap, Log, State};
 use std::alloc::Global;
 

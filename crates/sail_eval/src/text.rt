@@ -1,3 +1,5 @@
+//! What an evaluation reads of its text.
+
 use lex_core::RegDecl;
 use sail_syntax::Def;
 use state_core::{Answers, Log};

@@ -4,8 +4,6 @@
 
 mod definitions;
 mod patterns;
-#[cfg(test)]
-mod tests;
 mod tree;
 mod types;
 

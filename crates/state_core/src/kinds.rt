@@ -1,3 +1,5 @@
+//! Faults, accesses, device events, and what a program does with them.
+
 use sqlite_items::Items;
 
 /// Why an instruction has no result.

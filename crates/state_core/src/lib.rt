@@ -5,8 +5,6 @@ mod bytes;
 mod kinds;
 pub mod memory;
 mod state;
-#[cfg(test)]
-mod tests;
 
 pub use kinds::{Access, AccessKind, Answers, DevEvent, DevMap, FaultKind, Log, MemStop, Range};
 pub use state::State;

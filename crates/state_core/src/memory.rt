@@ -1,3 +1,5 @@
+//! The accesses of a program: fetches, loads and stores, each noted in the log.
+
 ghost use Rattle.std.specs.Prelude.{◌≡◌, ◌+◌, ◌*◌, ◌^◌, ◌<◌, ◌≤◌, drop, IfOk};
 ghost use Rattle.state_core.specs.Agrees.{Agrees};
 ghost use Rattle.state_core.specs.Memory.{fetch, load, store, answered, nothing, touches_range, lies_in, touches, in_device};

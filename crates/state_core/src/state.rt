@@ -1,3 +1,5 @@
+//! The state: registers by their numbers, and bytes by address.
+
 ghost use Rattle.std.specs.Prelude.{◌≡◌, ◌+◌, ◌*◌, ◌^◌, ◌<◌, ◌≤◌, true, false, length, map, All, IfOk, OnOk, OnErr, IfSome, is_some, slice_set};
 ghost use Rattle.std.specs.FinMap.{empty, insert};
 ghost use Rattle.bv_bits.specs.Bits.{IsBits, IsWidth};

@@ -9,7 +9,8 @@ use Rattle.term_arena.specs.declared.node.Key.{Key}
 use Rattle.term_arena.specs.declared.node.Facts.{Facts}
 use Rattle.term_arena.specs.Texts.{Grows}
 use Rattle.term_arena.specs.Nodes.{Node, Meaning, of_term, of_array, meaning_by, meanings_of, meaning_at, Keeps}
-use Rattle.term_arena.specs.Arena.{LIMIT, plain, IsNamed, IsFine, IsTypedMeaning, IsKept, width_in, height_in, arguments}
+use Rattle.term_arena.specs.declared.keeping.TheConstants.{LIMIT}
+use Rattle.term_arena.specs.Arena.{plain, IsNamed, IsFine, IsTypedMeaning, IsKept, width_in, height_in, arguments}
 use Rattle.term_arena.specs.Keeping.{Added, IsIn}
 use Rattle.term_arena.proofs.MeaningLemmas.{keeps-append, keeps_itself, meaning_at-get, meaning_by-more, meanings_of-length}
 use Rattle.term_arena.proofs.KeyLemmas.{nodes_grown, kept_node}

@@ -1,13 +1,14 @@
 -- What calls add to a list of nodes, and when it is full.
 use Rattle.std.proofs.Common.{◌≡◌, List, [], ◌∷◌, ◌++◌, length, map, ◌⊎◌, inl, inr, refl, ap, sym, ◌∙◌, subst, arith, length-append, append_assoc}
-use Rattle.std.specs.Prelude.{Contains, Result, Err}
+use Rattle.std.specs.Prelude.{Contains}
 use Rattle.std.proofs.lemmas.Bool.{cases_lt}
 use Rattle.std.proofs.lemmas.List.{map-append}
 use Rattle.std.proofs.lemmas.List.Elements.{Contains-append_left, Contains-append_right, Contains-append_cases, Contains-push_cases, Contains-push}
 use Rattle.term_tree.specs.Terms.{Tree, ArrayTree}
-use Rattle.term_tree.specs.Making.{Asked, Made, made_then, asks}
+use Rattle.term_rules.specs.Making.{Asked, Made, made_then, asks}
 use Rattle.term_arena.specs.Nodes.{Node, Meaning, of_term, of_array, meaning_by, meanings_of, meaning_at, Keeps}
-use Rattle.term_arena.specs.Arena.{LIMIT, IsArena, IsTypedMeaning}
+use Rattle.term_arena.specs.declared.keeping.TheConstants.{LIMIT}
+use Rattle.term_arena.specs.Arena.{IsArena, IsTypedMeaning}
 use Rattle.term_arena.specs.Keeping.{IsIn}
 use Rattle.term_arena.specs.Built.{arguments_of, built_of, built, AddsOnly, IsFull}
 use Rattle.term_arena.proofs.MeaningLemmas.{meaning_at-push}
@@ -37,6 +38,15 @@ within_both xs ys us vs h k = record {
       elim (Contains-append_cases xs ys m c) [
         | inl a ↦ Contains-append_left us vs m (h.each m a)
         | inr b ↦ Contains-append_right us vs m (k.each m b)
+      ];
+}
+
+pub within_join : (xs ys zs : List Meaning) → Within xs zs → Within ys zs → Within (xs ++ ys) zs
+within_join xs ys zs h k = record {
+  each = λ m c.
+      elim (Contains-append_cases xs ys m c) [
+        | inl a ↦ h.each m a
+        | inr b ↦ k.each m b
       ];
 }
 
@@ -101,14 +111,6 @@ full_node old new n m ok e typed same h =
       lacks = λ i lt q. h.1 (i, node_of_meaning old ok i n lt (subst IsTypedMeaning (sym e) typed) (q ∙ sym e));
     })
 
--- a refusal in place of a value
-abbrev pub refused : (T : Type 0) → {E : Type 0} → E → Result T E
-refused T x = Err x
-
--- a refusal of a call is one of the caller
-pub err_of : {T U E : Type 0} (x y : E) → refused U x ≡ refused U y → refused T x ≡ refused T y
-err_of {T} {U} {E} x y h = let e : x ≡ y = cc in ap (λ (z : E). refused T z) e
-
 -- ---- what is made on the way
 
 built_of-append : (xs ys : List Asked) → built_of (xs ++ ys) ≡ built_of xs ++ built_of ys
@@ -140,9 +142,14 @@ module _ {A B : Type 0} (m : Made A) (f : A → Made B) where
       within_both (built_of (f m.it).asked) (map of_array (f m.it).stored) (built_of (m.asked ++ (f m.it).asked)) (map of_array (m.stored ++ (f m.it).stored))
       (asked_right m.asked (f m.it).asked) (stored_right m.stored (f m.it).stored)
 
-  -- the same, by the term that was made
-  pub built_after : (s : A) → m.it ≡ s → Within (built (f s)) (built (made_then m f))
-  built_after s e = subst (λ (x : A). Within (built (f x)) (built (made_then m f))) e built_second
+  -- and nothing else
+  pub built_then : Within (built (made_then m f)) (built m ++ built (f m.it))
+  built_then =
+      within_join (built_of (m.asked ++ (f m.it).asked)) (map of_array (m.stored ++ (f m.it).stored)) (built m ++ built (f m.it))
+      (subst (λ (l : List Meaning). Within l (built m ++ built (f m.it))) (sym (built_of-append m.asked (f m.it).asked))
+      (within_both (built_of m.asked) (built_of (f m.it).asked) (built m) (built (f m.it)) (within_left (built_of m.asked) (map of_array m.stored)) (within_left (built_of (f m.it).asked) (map of_array (f m.it).stored))))
+      (subst (λ (l : List Meaning). Within l (built m ++ built (f m.it))) (sym (map-append of_array m.stored (f m.it).stored))
+      (within_both (map of_array m.stored) (map of_array (f m.it).stored) (built m) (built (f m.it)) (within_right (built_of m.asked) (map of_array m.stored)) (within_right (built_of (f m.it).asked) (map of_array (f m.it).stored))))
 
 module _ (t : Tree) (m : Made Tree) where
   -- what was made of it
@@ -156,6 +163,18 @@ module _ (t : Tree) (m : Made Tree) where
   asks_last =
       within_trans (map of_term (arguments_of t) ++ of_term m.it ∷ []) (built_of (m.asked ++ (t, m.it) ∷ [])) (built (asks t m))
       (asked_right m.asked ((t, m.it) ∷ [])) (within_left (built_of (m.asked ++ (t, m.it) ∷ [])) (map of_array m.stored))
+
+  -- and nothing else
+  pub asks_all : Within (built (asks t m)) (map of_term (arguments_of t) ++ of_term m.it ∷ built m)
+  asks_all =
+      let all = map of_term (arguments_of t) ++ of_term m.it ∷ built m in
+      let more : Within (built m) all = within_trans (built m) (of_term m.it ∷ built m) all (within_right (of_term m.it ∷ []) (built m)) (within_right (map of_term (arguments_of t)) (of_term m.it ∷ built m)) in
+      let last : Within (map of_term (arguments_of t) ++ of_term m.it ∷ []) all =
+      within_both (map of_term (arguments_of t)) (of_term m.it ∷ []) (map of_term (arguments_of t)) (of_term m.it ∷ built m) (within_itself (map of_term (arguments_of t))) (within_left (of_term m.it ∷ []) (built m)) in
+      within_join (built_of (m.asked ++ (t, m.it) ∷ [])) (map of_array m.stored) all
+      (subst (λ (l : List Meaning). Within l all) (sym (built_of-append m.asked ((t, m.it) ∷ [])))
+      (within_join (built_of m.asked) (map of_term (arguments_of t) ++ of_term m.it ∷ []) all (within_trans (built_of m.asked) (built m) all (within_left (built_of m.asked) (map of_array m.stored)) more) last))
+      (within_trans (map of_array m.stored) (built m) all (within_right (built_of m.asked) (map of_array m.stored)) more)
 
   pub asks_arguments : Within (map of_term (arguments_of t)) (built (asks t m))
   asks_arguments =

@@ -1,25 +1,14 @@
 -- Equal terms have equal numbers.
 use Rattle.std.proofs.Common.{◌≡◌, ℕ, true, false, true≢false, zero, suc, ◌<◌, List, length, Some, inl, inr, refl, ap, sym, ◌∙◌, subst, arith}
-use Rattle.std.specs.Prelude.{slice_get, slice_index_or, AllPairs, ◌≢◌, ⊤}
+use Rattle.std.specs.Prelude.{slice_get, slice_index_or, AllPairs, ◌≢◌}
 use Rattle.std.proofs.lemmas.Bool.{cases_lt}
 use Rattle.std.proofs.lemmas.Option.{slice_get-get_or}
 use Rattle.term_tree.specs.Terms.{IsTyped, IsTypedArray}
 use Rattle.term_arena.specs.Nodes.{Node, lit_node, var_node, one_node, two_node, three_node, sel_node, array_node, upd_node, splice_node, Meaning, of_term, of_array, as_term, as_array, place, meaning_by, meanings_of, meaning_at, term_at, array_at}
 use Rattle.term_arena.specs.Arena.{IsArena, IsTypedMeaning}
+use Rattle.term_arena.specs.Numbers.{PartsIn}
 use Rattle.term_arena.specs.Keeping.{is_term_node, TypedAreNamed, TypedArraysAreNamed}
 use Rattle.term_arena.proofs.MeaningLemmas.{place_within, array_place_within, term_within, array_within, term_is, array_is, blank_untyped, blank_array_untyped, fine_typed, before, before_typed, meaning_at-get}
-
--- each part of the node is one that there is
-abbrev pub PartsIn : (ℕ → Type 0) → Node → Type 0
-PartsIn Low (lit_node b) = ⊤
-PartsIn Low (var_node x w) = ⊤
-PartsIn Low (one_node op a) = Low a
-PartsIn Low (two_node op a b) = Low a × Low b
-PartsIn Low (three_node op a b c) = Low a × Low b × Low c
-PartsIn Low (sel_node f i) = Low i
-PartsIn Low (array_node f) = ⊤
-PartsIn Low (upd_node of i e) = Low of × Low i × Low e
-PartsIn Low (splice_node of below i) = Low of × Low below × Low i
 
 -- the parts of a typed node are in the list
 pub parts_within : (ms : List Meaning) (n : Node) → IsTypedMeaning (meaning_by ms n) → PartsIn (λ a. a < length ms) n

@@ -1,24 +1,29 @@
 -- Trees as interned terms, and back.
-use Rattle.std.proofs.Common.{◌≡◌, ℕ, ◌<◌, ◌≤◌, List, [], ◌∷◌, length, get_or, Some, refl, ap, sym, ◌∙◌, subst, arith}
-use Rattle.std.specs.Prelude.{Result, Ok, Err, IfOk, slice_get}
+use Rattle.std.proofs.Common.{◌≡◌, ℕ, ◌<◌, ◌≤◌, List, [], ◌∷◌, ◌++◌, length, get_or, Some, refl, ap, sym, ◌∙◌, subst, arith}
+use Rattle.std.specs.Prelude.{◌≢◌, Result, Ok, Err, IfOk, slice_get}
 use Rattle.bv_bits.specs.declared.Op.{Op}
 use Rattle.term_tree.specs.declared.term.Term.{Term}
 use Rattle.term_tree.specs.declared.term.ArrayTerm.{ArrayTerm}
 use Rattle.term_tree.specs.declared.term.ArrayTerm.TheVariants as term
 use Rattle.term_tree.specs.declared.term.ArrayTerm.TheOpen.{ArrayTerm-F}
 use Rattle.term_tree.specs.declared.term.ArrayTerm.TheFolds.{fold-roll-ArrayTerm}
-use Rattle.term_tree.specs.Terms.{Text, one, two, three, sel, ArrayTree, array, upd, splice, IsTyped}
+use Rattle.term_tree.specs.declared.term.TermFault.{TermFault}
+use Rattle.term_tree.specs.declared.term.TermFault.TheVariants as fault
+use Rattle.term_tree.specs.Terms.{Text, Tree, lit, var, one, two, three, sel, ArrayTree, array, upd, splice, IsTyped, height, array_height, HIGHEST}
 use Rattle.term_tree.specs.View.{tree, array_tree, array_step}
 use Rattle.term_arena.specs.declared.node.TermId.{TermId}
-use Rattle.term_arena.specs.Nodes.{Node, as_term, meaning_by, meanings_of, term_at, sel_node}
+use Rattle.term_arena.specs.Nodes.{Node, of_term, of_array, as_array, as_term, meaning_by, meanings_of, term_at, sel_node}
 use Rattle.term_arena.specs.Arena.{IsArena}
-use Rattle.term_arena.specs.Answers.{app_node}
-use Rattle.term_arena.proofs.MeaningLemmas.{meaning_at-get}
+use Rattle.term_arena.specs.declared.node.ArrayId.{ArrayId}
+use Rattle.term_arena.specs.Answers.{app_node, id_term, id_array}
+use Rattle.term_arena.specs.Built.{parts, array_parts}
+use Rattle.term_arena.proofs.MakingLemmas.{answer_is}
+use Rattle.term_arena.specs.Said.{Answer, Answers, Said, said_then, sole, single, whole_term, whole_array}
+use Rattle.term_arena.specs.Makes.{AreLow, Makes}
+use Rattle.term_arena.proofs.MakesLemmas.{low_one, low_both, not_high, makes_as}
+use Rattle.term_arena.proofs.MeaningLemmas.{keeps_itself, meaning_at-get}
+use Rattle.term_arena.proofs.ArgsLemmas.{three_of}
 use Rattle.term_arena.proofs.EqualLemmas.{parts_below}
-
-pub if_ok_map : {T E : Type 0} (r : Result T E) (P Q : T → Type 0) → ((x : T) → P x → Q x) → IfOk r P → IfOk r Q
-if_ok_map (Ok x) P Q f h = f x h
-if_ok_map (Err e) P Q f h = h
 
 pub array_tree_var : (x : Text) → array_tree (term.Var x) ≡ array x
 array_tree_var x = ap array_tree (sym (term.rolls-Var x)) ∙ fold-roll-ArrayTerm ArrayTree array_step (ArrayTerm-F.Var x)
@@ -39,6 +44,10 @@ two_of [] d h k = absurd (omega arith)
 two_of (a ∷ []) d h k = absurd (omega arith)
 two_of (a ∷ b ∷ []) d h k = refl
 two_of (a ∷ b ∷ c ∷ xs) d h k = absurd (omega arith)
+
+-- what stands where there is no argument
+abbrev pub none : TermId
+none = record { number = 0 }
 
 module _ (nodes : List Node) (ok : IsArena nodes) (i : ℕ) (t : IsTyped (term_at nodes i)) where
   means : (n : Node) → slice_get nodes i ≡ Some n → term_at nodes i ≡ as_term (meaning_by (meanings_of nodes) n)
@@ -62,7 +71,149 @@ module _ (nodes : List Node) (ok : IsArena nodes) (i : ℕ) (t : IsTyped (term_a
       let h : IsTyped (three op (term_at nodes a.number) (term_at nodes b.number) (term_at nodes c.number)) = subst IsTyped m t in
       (parts_below nodes ok i (app_node op (a ∷ b ∷ c ∷ [])) e, (h.1, h.2, h.3), m)
 
+  -- the same by a list of arguments
+  pub one_args : (op : Op) (xs : List TermId) → slice_get nodes i ≡ Some (app_node op xs) → 1 ≤ length xs → length xs < 2 → (λ (a : TermId). (a.number < i) × IsTyped (term_at nodes a.number) × (term_at nodes i ≡ one op (term_at nodes a.number))) (get_or xs 0 none)
+  one_args op xs e h k = app_one op (get_or xs 0 none) (e ∙ ap (λ (l : List TermId). Some (app_node op l)) (one_of xs none h k))
+
+  pub two_args : (op : Op) (xs : List TermId) → slice_get nodes i ≡ Some (app_node op xs) → 2 ≤ length xs → length xs < 3
+      → (λ (a b : TermId). ((a.number < i) × (b.number < i)) × (IsTyped (term_at nodes a.number) × IsTyped (term_at nodes b.number)) × (term_at nodes i ≡ two op (term_at nodes a.number) (term_at nodes b.number))) (get_or xs 0 none) (get_or xs 1 none)
+  two_args op xs e h k = app_two op (get_or xs 0 none) (get_or xs 1 none) (e ∙ ap (λ (l : List TermId). Some (app_node op l)) (two_of xs none h k))
+
+  pub three_args : (op : Op) (xs : List TermId) → slice_get nodes i ≡ Some (app_node op xs) → 3 ≤ length xs → length xs < 4
+      → (λ (a b c : TermId). ((a.number < i) × (b.number < i) × (c.number < i)) × (IsTyped (term_at nodes a.number) × IsTyped (term_at nodes b.number) × IsTyped (term_at nodes c.number)) × (term_at nodes i ≡ three op (term_at nodes a.number) (term_at nodes b.number) (term_at nodes c.number))) (get_or xs 0 none) (get_or xs 1 none) (get_or xs 2 none)
+  three_args op xs e h k = app_three op (get_or xs 0 none) (get_or xs 1 none) (get_or xs 2 none) (e ∙ ap (λ (l : List TermId). Some (app_node op l)) (three_of xs none h k))
+
   pub sel_at : (x : Text) (a : TermId) → slice_get nodes i ≡ Some (sel_node x a.number) → (a.number < i) × IsTyped (term_at nodes a.number) × (term_at nodes i ≡ sel x (term_at nodes a.number))
   sel_at x a e =
       let m = means (sel_node x a.number) e in
       (parts_below nodes ok i (sel_node x a.number) e, (subst IsTyped m t).1, m)
+
+-- ---- definitions, step by step
+
+abbrev pub one_steps : Op → Tree → Said ⊥ Tree
+one_steps op a = said_then (whole_term a) (λ x. single (one op x))
+
+abbrev pub two_steps : Op → Tree → Tree → Said ⊥ Tree
+two_steps op a b = said_then (whole_term a) (λ x. said_then (whole_term b) (λ y. single (two op x y)))
+
+abbrev pub three_steps : Op → Tree → Tree → Tree → Said ⊥ Tree
+three_steps op a b c = said_then (whole_term a) (λ x. said_then (whole_term b) (λ y. said_then (whole_term c) (λ z. single (three op x y z))))
+
+abbrev pub sel_steps : Text → Tree → Said ⊥ Tree
+sel_steps f i = said_then (whole_term i) (λ x. single (sel f x))
+
+abbrev pub upd_steps : ArrayTree → Tree → Tree → Said ⊥ ArrayTree
+upd_steps f i e = said_then (whole_array f) (λ g. said_then (whole_term i) (λ j. said_then (whole_term e) (λ d. sole as_array (of_array (upd g j d)))))
+
+abbrev pub splice_steps : ArrayTree → ArrayTree → Tree → Said ⊥ ArrayTree
+splice_steps f g i = said_then (whole_array f) (λ a. said_then (whole_array g) (λ b. said_then (whole_term i) (λ j. sole as_array (of_array (splice a b j)))))
+
+one_is : (op : Op) (a : Tree) → one_steps op a ≡ whole_term (one op a)
+unfolding said_then
+one_is op a = refl
+
+two_steps_is : (op : Op) (a b : Tree) → two_steps op a b ≡ whole_term (two op a b)
+unfolding said_then
+two_steps_is op a b = refl
+
+three_steps_is : (op : Op) (a b c : Tree) → three_steps op a b c ≡ whole_term (three op a b c)
+unfolding said_then
+three_steps_is op a b c = refl
+
+sel_is : (f : Text) (i : Tree) → sel_steps f i ≡ whole_term (sel f i)
+unfolding said_then
+sel_is f i = refl
+
+upd_steps_is : (f : ArrayTree) (i e : Tree) → upd_steps f i e ≡ whole_array (upd f i e)
+unfolding said_then
+upd_steps_is f i e = refl
+
+splice_steps_is : (f g : ArrayTree) (i : Tree) → splice_steps f g i ≡ whole_array (splice f g i)
+unfolding said_then
+splice_steps_is f g i = refl
+
+module _ (old new : List Node) (r : Result TermId TermFault) where
+  -- a tree by another name
+  pub whole_as : (t u : Tree) → t ≡ u → Makes old new id_term r (λ last. whole_term u) → Makes old new id_term r (λ last. whole_term t)
+  whole_as t u e m = subst (λ (x : Tree). Makes old new id_term r (λ last. whole_term x)) (sym e) m
+
+  pub one_whole : (op : Op) (a t : Tree) → t ≡ one op a → Makes old new id_term r (λ last. one_steps op a) → Makes old new id_term r (λ last. whole_term t)
+  one_whole op a t e m = whole_as t (one op a) e (makes_as m (λ last k. one_is op a))
+
+  pub two_whole : (op : Op) (a b : Tree) → Makes old new id_term r (λ last. two_steps op a b) → Makes old new id_term r (λ last. whole_term (two op a b))
+  two_whole op a b m = makes_as m (λ last k. two_steps_is op a b)
+
+  pub three_whole : (op : Op) (a b c : Tree) → Makes old new id_term r (λ last. three_steps op a b c) → Makes old new id_term r (λ last. whole_term (three op a b c))
+  three_whole op a b c m = makes_as m (λ last k. three_steps_is op a b c)
+
+  pub sel_whole : (f : Text) (i t : Tree) → t ≡ sel f i → Makes old new id_term r (λ last. sel_steps f i) → Makes old new id_term r (λ last. whole_term t)
+  sel_whole f i t e m = whole_as t (sel f i) e (makes_as m (λ last k. sel_is f i))
+
+module _ (old new : List Node) (r : Result ArrayId TermFault) where
+  pub whole_array_as : (t u : ArrayTree) → t ≡ u → Makes old new id_array r (λ last. whole_array u) → Makes old new id_array r (λ last. whole_array t)
+  whole_array_as t u e m = subst (λ (x : ArrayTree). Makes old new id_array r (λ last. whole_array x)) (sym e) m
+
+  pub upd_whole : (f : ArrayTree) (i e : Tree) → Makes old new id_array r (λ last. upd_steps f i e) → Makes old new id_array r (λ last. whole_array (upd f i e))
+  upd_whole f i e m = makes_as m (λ last k. upd_steps_is f i e)
+
+  pub splice_whole : (f g : ArrayTree) (i : Tree) → Makes old new id_array r (λ last. splice_steps f g i) → Makes old new id_array r (λ last. whole_array (splice f g i))
+  splice_whole f g i m = makes_as m (λ last k. splice_steps_is f g i)
+
+-- ---- parts are no higher
+
+pub parts_low : (t : Tree) (n : ℕ) → height t ≤ n → n ≤ HIGHEST → AreLow (parts t)
+parts_low (lit b) n h k = low_one (of_term (lit b)) (omega arith)
+parts_low (var x w) n h k = low_one (of_term (var x w)) (omega arith)
+parts_low (one op a) n h k = low_both (parts a) (of_term (one op a) ∷ []) (parts_low a n (omega arith) k) (low_one (of_term (one op a)) (omega arith))
+parts_low (two op a b) n h k =
+    low_both (parts a) (parts b ++ of_term (two op a b) ∷ []) (parts_low a n (omega arith) k)
+    (low_both (parts b) (of_term (two op a b) ∷ []) (parts_low b n (omega arith) k) (low_one (of_term (two op a b)) (omega arith)))
+parts_low (three op a b c) n h k =
+    low_both (parts a) (parts b ++ (parts c ++ of_term (three op a b c) ∷ [])) (parts_low a n (omega arith) k)
+    (low_both (parts b) (parts c ++ of_term (three op a b c) ∷ []) (parts_low b n (omega arith) k)
+    (low_both (parts c) (of_term (three op a b c) ∷ []) (parts_low c n (omega arith) k) (low_one (of_term (three op a b c)) (omega arith))))
+parts_low (sel f i) n h k = low_both (parts i) (of_term (sel f i) ∷ []) (parts_low i n (omega arith) k) (low_one (of_term (sel f i)) (omega arith))
+
+pub array_parts_low : (f : ArrayTree) (n : ℕ) → array_height f ≤ n → n ≤ HIGHEST → AreLow (array_parts f)
+array_parts_low (array f) n h k = low_one (of_array (array f)) (omega arith)
+array_parts_low (upd f i e) n h k =
+    low_both (array_parts f) (parts i ++ (parts e ++ of_array (upd f i e) ∷ [])) (array_parts_low f n (omega arith) k)
+    (low_both (parts i) (parts e ++ of_array (upd f i e) ∷ []) (parts_low i n (omega arith) k)
+    (low_both (parts e) (of_array (upd f i e) ∷ []) (parts_low e n (omega arith) k) (low_one (of_array (upd f i e)) (omega arith))))
+array_parts_low (splice f g i) n h k =
+    low_both (array_parts f) (array_parts g ++ (parts i ++ of_array (splice f g i) ∷ [])) (array_parts_low f n (omega arith) k)
+    (low_both (array_parts g) (parts i ++ of_array (splice f g i) ∷ []) (array_parts_low g n (omega arith) k)
+    (low_both (parts i) (of_array (splice f g i) ∷ []) (parts_low i n (omega arith) k) (low_one (of_array (splice f g i)) (omega arith))))
+
+-- a call that is told to be too high is so
+pub not_too_high : {T A : Type 0} (old new : List Node) (view : List Node → T → A) (r : Result T TermFault) (said : List Node → Said ⊥ A) → Makes old new view r said → AreLow (said new).work → r ≢ Err fault.TermTooHigh
+not_too_high {T} {A} old new view r said m low e =
+    let P : Result T TermFault → Type 0 = λ q. Makes old new view q said in
+    not_high (said new).work low ((subst P e m).tells new (keeps_itself new))
+
+-- ---- terms of numbers
+
+module _ (n : List Node) (op : Op) where
+  pub two_is : (x y : TermId) (a b : Tree) → (let s : Answer ⊥ Tree = Answers a in s) ≡ Answers (id_term n x) → (let s : Answer ⊥ Tree = Answers b in s) ≡ Answers (id_term n y) → two op (id_term n x) (id_term n y) ≡ two op a b
+  two_is x y a b h g = ap (λ (t : Tree). two op t (id_term n y)) (sym (answer_is a (id_term n x) h)) ∙ ap (two op a) (sym (answer_is b (id_term n y) g))
+
+  pub three_is : (x y z : TermId) (a b c : Tree) → (let s : Answer ⊥ Tree = Answers a in s) ≡ Answers (id_term n x) → (let s : Answer ⊥ Tree = Answers b in s) ≡ Answers (id_term n y) → (let s : Answer ⊥ Tree = Answers c in s) ≡ Answers (id_term n z)
+      → three op (id_term n x) (id_term n y) (id_term n z) ≡ three op a b c
+  three_is x y z a b c h g f =
+      ap (λ (t : Tree). three op t (id_term n y) (id_term n z)) (sym (answer_is a (id_term n x) h)) ∙ ap (λ (t : Tree). three op a t (id_term n z)) (sym (answer_is b (id_term n y) g)) ∙ ap (three op a b) (sym (answer_is c (id_term n z) f))
+
+module _ (n : List Node) where
+  pub upd_is : (x : ArrayId) (y z : TermId) (f : ArrayTree) (i e : Tree) → (let s : Answer ⊥ ArrayTree = Answers f in s) ≡ Answers (id_array n x) → (let s : Answer ⊥ Tree = Answers i in s) ≡ Answers (id_term n y) → (let s : Answer ⊥ Tree = Answers e in s) ≡ Answers (id_term n z)
+      → upd (id_array n x) (id_term n y) (id_term n z) ≡ upd f i e
+  upd_is x y z f i e h g q =
+      ap (λ (t : ArrayTree). upd t (id_term n y) (id_term n z)) (sym (answer_is f (id_array n x) h)) ∙ ap (λ (t : Tree). upd f t (id_term n z)) (sym (answer_is i (id_term n y) g)) ∙ ap (upd f i) (sym (answer_is e (id_term n z) q))
+
+  pub splice_is : (x y : ArrayId) (z : TermId) (f g : ArrayTree) (i : Tree) → (let s : Answer ⊥ ArrayTree = Answers f in s) ≡ Answers (id_array n x) → (let s : Answer ⊥ ArrayTree = Answers g in s) ≡ Answers (id_array n y) → (let s : Answer ⊥ Tree = Answers i in s) ≡ Answers (id_term n z)
+      → splice (id_array n x) (id_array n y) (id_term n z) ≡ splice f g i
+  splice_is x y z f g i h k q =
+      ap (λ (t : ArrayTree). splice t (id_array n y) (id_term n z)) (sym (answer_is f (id_array n x) h)) ∙ ap (λ (t : ArrayTree). splice f t (id_term n z)) (sym (answer_is g (id_array n y) k)) ∙ ap (splice f g) (sym (answer_is i (id_term n z) q))
+
+-- what holds of a term that is interned holds of the term of its number
+pub interned_has : (P : Tree → Type 0) (old new : List Node) (r : Result TermId TermFault) (t : Tree) → Makes old new id_term r (λ last. whole_term t) → P t → IfOk r (λ id. P (id_term new id))
+interned_has P old new (Ok id) t m h = subst P (answer_is t (id_term new id) (m.tells new (keeps_itself new)).0) h
+interned_has P old new (Err e) t m h = tt

@@ -9,7 +9,8 @@ use Rattle.term_tree.specs.Terms.{Text, blank, IsTyped, IsTypedArray, HIGHEST}
 use Rattle.term_arena.specs.declared.node.Key.{Key}
 use Rattle.term_arena.specs.declared.node.Facts.{Facts}
 use Rattle.term_arena.specs.Nodes.{Node, Meaning, of_term, meaning_by, meanings_of, meaning_at, term_at, array_at, of_array}
-use Rattle.term_arena.specs.Arena.{LIMIT, plain, IsNamed, IsArena, IsFine, IsKept, width_in, height_in, arguments}
+use Rattle.term_arena.specs.declared.keeping.TheConstants.{LIMIT}
+use Rattle.term_arena.specs.Arena.{plain, IsNamed, IsArena, IsFine, IsKept, width_in, height_in, arguments}
 use Rattle.term_arena.proofs.MeaningLemmas.{meanings_of-length, meanings_of-push, meaning_at-get, term_within, array_within}
 use Rattle.term_arena.proofs.KeyLemmas.{nodes_grown, named_grown, nodes_once}
 

@@ -3,10 +3,11 @@ use Rattle.std.proofs.Common.{◌≡◌, ℕ, Bool, true, false, cond, List, Opt
 use Rattle.std.specs.Prelude.{nat_eq, bytes_eq, slice_index_or, unwrap_or}
 use Rattle.std.proofs.lemmas.Slice.Eq.{bytes_eq-Decides}
 use Rattle.term_tree.specs.Terms.{Text, Tree, var, ArrayTree, array, IsTyped, IsTypedArray, width_of}
-use Rattle.term_tree.specs.Making.{within_height}
-use Rattle.term_tree.specs.Replacing.{Replacements, substitute, substitute_array, Fits, FitsArray, replaced_var, replaced_array}
-use Rattle.term_tree.proofs.ReplaceLemmas.{found}
+use Rattle.term_change.specs.Replacing.{Replacements, substitute, substitute_array, Fits, FitsArray, replaced_var, replaced_array}
+use Rattle.term_tree.proofs.FoundLemmas.{found}
 use Rattle.term_arena.specs.Nodes.{Node, term_at, array_at, Keeps}
+use Rattle.term_arena.specs.Built.{built}
+use Rattle.term_arena.specs.Makes.{AreLow}
 use Rattle.term_arena.specs.Keeping.{EqualTermsAreOne, EqualArraysAreOne}
 use Rattle.term_arena.specs.declared.substituting.Replaced.{Replaced}
 use Rattle.term_arena.specs.Renumbering.{number_for}
@@ -24,8 +25,8 @@ module _ (old new : List Node) (by : Replacements) (k : Keeps old new) where
         of = subst IsTyped (sym e) h.of;
         typed = subst IsTyped (sym f) h.typed;
         is = λ fits.
-            subst (λ (t : Tree). within_height (substitute by t) ≡ Some (term_at new r)) (sym e)
-            (subst (λ (t : Tree). within_height (substitute by (term_at old n)) ≡ Some t) (sym f) (h.is (subst (Fits by) e fits)));
+            subst (λ (t : Tree). ((substitute by t).it ≡ term_at new r) × AreLow (built (substitute by t))) (sym e)
+            (let i = h.is (subst (Fits by) e fits) in (i.0 ∙ sym f, i.1));
       }
 
   array_stands_keeps : (n r : ℕ) → StandsForArray old by n r → StandsForArray new by n r
@@ -36,8 +37,8 @@ module _ (old new : List Node) (by : Replacements) (k : Keeps old new) where
         of = subst IsTypedArray (sym e) h.of;
         typed = subst IsTypedArray (sym f) h.typed;
         is = λ fits.
-            subst (λ (t : ArrayTree). within_height (substitute_array by t) ≡ Some (array_at new r)) (sym e)
-            (subst (λ (t : ArrayTree). within_height (substitute_array by (array_at old n)) ≡ Some t) (sym f) (h.is (subst (FitsArray by) e fits)));
+            subst (λ (t : ArrayTree). ((substitute_array by t).it ≡ array_at new r) × AreLow (built (substitute_array by t))) (sym e)
+            (let i = h.is (subst (FitsArray by) e fits) in (i.0 ∙ sym f, i.1));
       }
 
   pub knows_keeps : (known : Replaced) → Knows old by known → Knows new by known
@@ -96,16 +97,6 @@ module _ (nodes : List Node) (by : Replacements) (known later : Replaced) (n r :
         (v.0, t.0, v.2, put v.0 ∙ t.1);
   }
 
-  -- nothing more is known
-  pub knows_same : ((k : ℕ) → number_for later.terms k ≡ number_for known.terms k) → ((k : ℕ) → number_for later.arrays k ≡ number_for known.arrays k) → Knows nodes by later
-  knows_same t a = record {
-    typed = h.typed;
-    terms = λ k s e. h.terms k s (sym (t k) ∙ e);
-    arrays = λ k s e. h.arrays k s (sym (a k) ∙ e);
-    variables = λ i d lt. let v = h.variables i d lt in (v.0, v.1, v.2, t v.0 ∙ v.3);
-    array_variables = λ i d lt. let v = h.array_variables i d lt in (v.0, v.1, v.2, a v.0 ∙ v.3);
-  }
-
 -- ---- variables that nothing stands for
 
 module _ (nodes : List Node) (by : Replacements) (known : Replaced) (h : Knows nodes by known) where
@@ -147,8 +138,7 @@ module _ (nodes : List Node) (by : Replacements) (known : Replaced) (h : Knows n
   stands_by f i once is None e = is ∙ sym (array_kept f i once is e)
   stands_by f i once is (Some r) e =
       let s = (h.arrays i r e).is (subst (FitsArray by) (sym is) tt) in
-      let t : Some (replaced_array by f) ≡ Some (array_at nodes r) = subst (λ (g : ArrayTree). within_height (substitute_array by g) ≡ Some (array_at nodes r)) is s in
-      (let q : array_at nodes r ≡ replaced_array by f = cc in q)
+      sym (subst (λ (g : ArrayTree). (substitute_array by g).it ≡ array_at nodes r) is s.0)
 
   pub array_stands : (f : Text) (i : ℕ) → EqualArraysAreOne nodes → array_at nodes i ≡ array f → array_at nodes (unwrap_or (number_for known.arrays i) i) ≡ replaced_array by f
   array_stands f i once is = stands_by f i once is (number_for known.arrays i) refl

@@ -6,13 +6,16 @@ use Rattle.std.proofs.lemmas.List.Elements.{All-head, All-tail, All-map, All-wea
 use Rattle.std.proofs.lemmas.Slice.Eq.{bytes_eq-Decides}
 use Rattle.std.proofs.lemmas.Bool.Decides.{eqb_tells}
 use Rattle.term_tree.specs.Terms.{Text, Tree, var, ArrayTree, array, IsTyped, IsTypedArray, width_of}
-use Rattle.term_tree.specs.Making.{within_height}
-use Rattle.term_tree.specs.Replacing.{substitute, substitute_array, Fits}
-use Rattle.term_tree.proofs.TypedLemmas.{width_is}
+use Rattle.term_change.specs.Replacing.{Replacements, substitute, substitute_array, Fits}
+use Rattle.term_tree.proofs.WidthLemmas.{width_is}
 use Rattle.term_arena.specs.declared.node.TermId.{TermId}
 use Rattle.term_arena.specs.declared.node.ArrayId.{ArrayId}
 use Rattle.term_arena.specs.declared.substituting.Replaced.{Replaced}
-use Rattle.term_arena.specs.Nodes.{Node, term_at, array_at}
+use Rattle.term_arena.specs.Nodes.{Node, term_at, array_at, Keeps}
+use Rattle.term_arena.specs.Built.{built}
+use Rattle.term_arena.specs.Makes.{AreLow}
+use Rattle.term_arena.proofs.MakesLemmas.{low_none}
+use Rattle.term_arena.proofs.MeaningLemmas.{keeps_term, keeps_array}
 use Rattle.term_arena.specs.Keeping.{EqualTermsAreOne, EqualArraysAreOne}
 use Rattle.term_arena.specs.Answers.{id_term, id_array}
 use Rattle.term_arena.specs.Renumbering.{number_for, first_term, first_array}
@@ -104,8 +107,8 @@ module _ (nodes : List Node) (once : EqualTermsAreOne nodes) where
         of = subst IsTyped (sym p.1) (width_is (term_at nodes r) p.2);
         typed = p.2;
         is = λ fits.
-            subst (λ (t : Tree). within_height (substitute (replacements nodes bits arrays) t) ≡ Some (term_at nodes r)) (sym p.1)
-            (ap Some (first_named bits p.0 (width_of (term_at nodes r)) n r h p.1 (subst (Fits (replacements nodes bits arrays)) p.1 fits) f));
+            subst (λ (t : Tree). ((substitute (replacements nodes bits arrays) t).it ≡ term_at nodes r) × AreLow (built (substitute (replacements nodes bits arrays) t))) (sym p.1)
+            (first_named bits p.0 (width_of (term_at nodes r)) n r h p.1 (subst (Fits (replacements nodes bits arrays)) p.1 fits) f, low_none);
       }
 
   -- for each pair's first term one stands
@@ -159,8 +162,8 @@ module _ (nodes : List Node) (once : EqualArraysAreOne nodes) where
         of = subst IsTypedArray (sym p.1) tt;
         typed = p.2;
         is = λ fits.
-            subst (λ (t : ArrayTree). within_height (substitute_array (replacements nodes bits arrays) t) ≡ Some (array_at nodes r)) (sym p.1)
-            (ap Some (first_array_named arrays p.0 n r h p.1 f));
+            subst (λ (t : ArrayTree). ((substitute_array (replacements nodes bits arrays) t).it ≡ array_at nodes r) × AreLow (built (substitute_array (replacements nodes bits arrays) t))) (sym p.1)
+            (first_array_named arrays p.0 n r h p.1 f, low_none);
       }
 
   pub first_array_some : (arrays : List (ArrayId × ArrayId)) (i : ℕ) (d : ArrayId × ArrayId) → i < length arrays → (r : ℕ) × (first_array arrays (slice_index_or arrays i d).0.number ≡ Some r)
@@ -195,3 +198,29 @@ module _ (nodes : List Node) (bits : List (TermId × TermId)) (arrays : List (Ar
         let s = first_array_some nodes array_once arrays i d lt in
         (p.0.number, s.0, array_name nodes array_once p (ha i d lt), more p.0.number ∙ s.1));
   }
+
+-- ---- along a list that grows
+
+module _ (old new : List Node) (once : EqualTermsAreOne old) (k : Keeps old new) where
+  named_stay : (bits : List (TermId × TermId)) → All (Replaces old) bits → map (named new) bits ≡ map (named old) bits
+  named_stay [] h = refl
+  named_stay (p ∷ bits) h =
+      let g = All-head (Replaces old) p bits h in
+      let e = keeps_term old new p.0.number k (pair_typed old once p g) in
+      let f = keeps_term old new p.1.number k g.2 in
+      let one : named new p ≡ named old p = ap (λ (t : Tree). (name_of_variable t, id_term new p.1)) e ∙ ap (λ (t : Tree). (name_of_variable (id_term old p.0), t)) f in
+      ap (λ q. q ∷ map (named new) bits) one ∙ ap (λ (l : List (Text × Tree)). named old p ∷ l) (named_stay bits (All-tail (Replaces old) p bits h))
+
+  arrays_stay : (arrays : List (ArrayId × ArrayId)) → All (ReplacesArray old) arrays → map (named_array new) arrays ≡ map (named_array old) arrays
+  arrays_stay [] h = refl
+  arrays_stay (p ∷ arrays) h =
+      let g = All-head (ReplacesArray old) p arrays h in
+      let e = keeps_array old new p.0.number k (subst IsTypedArray (sym g.1) tt) in
+      let f = keeps_array old new p.1.number k g.2 in
+      let one : named_array new p ≡ named_array old p = ap (λ (t : ArrayTree). (name_of_array t, id_array new p.1)) e ∙ ap (λ (t : ArrayTree). (name_of_array (id_array old p.0), t)) f in
+      ap (λ q. q ∷ map (named_array new) arrays) one ∙ ap (λ (l : List (Text × ArrayTree)). named_array old p ∷ l) (arrays_stay arrays (All-tail (ReplacesArray old) p arrays h))
+
+  pub replacements_stay : (bits : List (TermId × TermId)) (arrays : List (ArrayId × ArrayId)) → All (Replaces old) bits → All (ReplacesArray old) arrays → replacements new bits arrays ≡ replacements old bits arrays
+  replacements_stay bits arrays hb ha =
+      ap (λ (l : List (Text × Tree)). let r : Replacements = record { terms = l; arrays = map (named_array new) arrays } in r) (named_stay bits hb)
+      ∙ ap (λ (l : List (Text × ArrayTree)). let r : Replacements = record { terms = map (named old) bits; arrays = l } in r) (arrays_stay arrays ha)

@@ -1,144 +1,187 @@
 -- What the code that replaces variables owes the calls that it makes, and what it answers.
-use Rattle.std.proofs.Common.{◌≡◌, ℕ, List, [], ◌∷◌, Some, refl, ◌∙◌, subst}
-use Rattle.std.specs.Prelude.{Result, Ok, Err}
+use Rattle.std.proofs.Common.{◌≡◌, ℕ, List, ap, sym, ◌∙◌, subst}
+use Rattle.std.specs.Prelude.{Result, Ok, IfOk}
 use Rattle.bv_bits.specs.declared.Op.{Op}
 use Rattle.term_tree.specs.declared.term.TermFault.{TermFault}
-use Rattle.term_tree.specs.declared.term.TermFault.TheVariants as fault
-use Rattle.term_tree.specs.Terms.{Text, Tree, one, two, three, sel, ArrayTree, IsTyped, IsTypedArray, width_of}
-use Rattle.term_tree.specs.Making.{Made, made_then, just, asks, make, select, within_height}
-use Rattle.term_tree.specs.Replacing.{Replacements, substitute, substitute_array, replaced_array, Fits, FitsArray}
-use Rattle.term_tree.specs.Laws.{AreTyped}
-use Rattle.term_tree.proofs.TypedLemmas.{one_typed, two_typed, three_typed}
-use Rattle.term_tree.proofs.ReplaceLemmas.{substitute_typed, substitute_array_typed}
+use Rattle.term_tree.specs.Terms.{Text, Tree, one, two, three, sel, ArrayTree, upd, splice, IsTyped, IsTypedArray, width_of}
+use Rattle.term_rules.specs.Making.{Made, just, make}
+use Rattle.term_change.specs.Selecting.{select}
+use Rattle.term_change.specs.Replacing.{Replacements, substitute, substitute_array, replaced_array, update, join_at, Fits, FitsArray}
+use Rattle.term_change.specs.Laws.{AreTyped}
+use Rattle.term_rules.proofs.TypedLemmas.{one_typed, two_typed, three_typed}
+use Rattle.term_change.proofs.ReplaceLemmas.{substitute_typed, substitute_array_typed}
 use Rattle.term_arena.specs.declared.node.TermId.{TermId}
-use Rattle.term_arena.specs.Nodes.{Node, of_term, Keeps}
-use Rattle.term_arena.specs.Answers.{Gives, id_term}
-use Rattle.term_arena.specs.Built.{built, AddsOnly, IsFull}
-use Rattle.term_arena.specs.Substituting.{Builds}
-use Rattle.term_arena.proofs.MeaningLemmas.{keeps_term, keeps_trans}
-use Rattle.term_arena.proofs.AnswerLemmas.{low_from, gives_then}
-use Rattle.term_arena.proofs.SelectLemmas.{gives_err}
-use Rattle.term_arena.proofs.BuiltLemmas.{adds_nothing, adds_more, adds_then, full_more, built_first, built_after, err_of, within_right}
-
--- ---- one after the other
-
-module _ {S T A B : Type 0} (seen : S → A) (view : T → B) (m : Made A) (f : A → Made B) where
-  pub builds_then : (old mid new : List Node) (x : S) (r : Result T TermFault) → Keeps mid new → Builds old mid seen m (Ok x) → Builds mid new view (f (seen x)) r → Builds old new view (made_then m f) r
-  builds_then old mid new x r k h g =
-      let w = built_after m f (seen x) (low_from m (seen x) h.gives).it in
-      record {
-        gives = gives_then view m f (seen x) r h.gives g.gives;
-        adds = adds_then old mid new (built m) (built (f (seen x))) (built (made_then m f)) k (built_first m f) w h.adds g.adds;
-        full = λ q. full_more new (built (f (seen x))) (built (made_then m f)) w (g.full q);
-      }
-
-  pub builds_err : (old new : List Node) (x : TermFault) → Builds old new seen m (Err x) → Builds old new view (made_then m f) (Err x)
-  builds_err old new x h = record {
-    gives = gives_err seen view m f x h.gives;
-    adds = adds_more old new (built m) (built (made_then m f)) (built_first m f) h.adds;
-    full = λ q. full_more new (built m) (built (made_then m f)) (built_first m f) (h.full (err_of x fault.TooManyTerms q));
-  }
-
-module _ {T A : Type 0} (view : T → A) (m : Made A) where
-  -- a node that is there
-  pub builds_there : (nodes : List Node) (x : T) → within_height m ≡ Some (view x) → Builds nodes nodes view m (Ok x)
-  builds_there nodes x e = record {
-    gives = e;
-    adds = adds_nothing nodes nodes (built m) refl;
-    full = λ q. absurd (let z : ⊥ = cc in z);
-  }
-
-  -- there is no memory
-  pub builds_no_memory : (old new : List Node) → AddsOnly old new (built m) → Builds old new view m (Err fault.NoMemory)
-  builds_no_memory old new h = record {
-    gives = tt;
-    adds = h;
-    full = λ q. absurd (let z : ⊥ = cc in z);
-  }
-
-pub sel_name : (f g : Text) (i j : Tree) → sel f i ≡ sel g j → f ≡ g
-sel_name f g i j e = cc
-
--- the byte of an array variable
-pub byte_builds : (old new : List Node) (f : Text) (i : Tree) (r : Result TermId TermFault) → Gives (id_term new) (asks (sel f i) (just (sel f i))) r → AddsOnly old new (of_term (sel f i) ∷ [])
-    → (r ≡ Err fault.TooManyTerms → IsFull new (of_term (sel f i) ∷ [])) → Builds old new (id_term new) (asks (sel f i) (just (sel f i))) r
-byte_builds old new f i r gives adds full =
-    let w = within_right (of_term i ∷ []) (of_term (sel f i) ∷ []) in
-    record {
-      gives = gives;
-      adds = adds_more old new (of_term (sel f i) ∷ []) (of_term i ∷ of_term (sel f i) ∷ []) w adds;
-      full = λ e. full_more new (of_term (sel f i) ∷ []) (of_term i ∷ of_term (sel f i) ∷ []) w (full e);
-    }
+use Rattle.term_arena.specs.declared.node.ArrayId.{ArrayId}
+use Rattle.term_arena.specs.Nodes.{Node, Keeps}
+use Rattle.term_arena.specs.Answers.{id_term, id_array}
+use Rattle.term_arena.specs.Built.{built}
+use Rattle.term_arena.specs.Said.{Answers, Said, said_of, said_then}
+use Rattle.term_arena.specs.Makes.{AreLow, Makes}
+use Rattle.term_arena.specs.Substituting.{StandsFor, StandsForArray}
+use Rattle.term_arena.proofs.MeaningLemmas.{keeps_itself, keeps_trans}
+use Rattle.term_arena.proofs.MakesLemmas.{makes_here, makes_as, low_none}
+use Rattle.term_arena.proofs.CoverLemmas.{covers_made, covers_two, covers_three, makes_more}
+use Rattle.term_arena.proofs.StayLemmas.{term_stays, array_stays}
+use Rattle.term_arena.proofs.MakingLemmas.{answer_is, makes_has}
 
 -- ---- what is made of typed terms
 
 module _ (by : Replacements) (ok : AreTyped by) where
-  pub made_has : (t u : Tree) → Fits by t → IsTyped t → within_height (substitute by t) ≡ Some u → IsTyped u × (width_of u ≡ width_of t)
-  made_has t u f h e = subst (λ (v : Tree). IsTyped v × (width_of v ≡ width_of t)) (low_from (substitute by t) u e).it (substitute_typed by t ok f h)
+  pub made_has : (t u : Tree) → Fits by t → IsTyped t → (substitute by t).it ≡ u → IsTyped u × (width_of u ≡ width_of t)
+  made_has t u f h e = subst (λ (v : Tree). IsTyped v × (width_of v ≡ width_of t)) e (substitute_typed by t ok f h)
 
-  pub made_part : (t u : Tree) (w : ℕ) → Fits by t → (width_of t ≡ w) × IsTyped t → within_height (substitute by t) ≡ Some u → (width_of u ≡ w) × IsTyped u
+  pub made_part : (t u : Tree) (w : ℕ) → Fits by t → (width_of t ≡ w) × IsTyped t → (substitute by t).it ≡ u → (width_of u ≡ w) × IsTyped u
   made_part t u w f h e = let i = made_has t u f h.1 e in (i.1 ∙ h.0, i.0)
 
-  pub made_array : (f g : ArrayTree) → FitsArray by f → IsTypedArray f → within_height (substitute_array by f) ≡ Some g → IsTypedArray g
-  made_array f g k h e = subst IsTypedArray (low_from (substitute_array by f) g e).it (substitute_array_typed by f ok k h)
+  pub made_array : (f g : ArrayTree) → FitsArray by f → IsTypedArray f → (substitute_array by f).it ≡ g → IsTypedArray g
+  made_array f g k h e = subst IsTypedArray e (substitute_array_typed by f ok k h)
 
-  pub owes_one : (op : Op) (a x : Tree) → Fits by a → IsTyped (one op a) → within_height (substitute by a) ≡ Some x → IsTyped (one op x)
+  pub owes_one : (op : Op) (a x : Tree) → Fits by a → IsTyped (one op a) → (substitute by a).it ≡ x → IsTyped (one op x)
   owes_one op a x f h e =
       let i = made_has a x f h.1 e in
       (one_typed op x (width_of a) h.0 i.0 i.1).0
 
-  pub owes_two : (op : Op) (a b x y : Tree) → Fits by a × Fits by b → IsTyped (two op a b) → within_height (substitute by a) ≡ Some x → within_height (substitute by b) ≡ Some y → IsTyped (two op x y)
+  pub owes_two : (op : Op) (a b x y : Tree) → Fits by a × Fits by b → IsTyped (two op a b) → (substitute by a).it ≡ x → (substitute by b).it ≡ y → IsTyped (two op x y)
   owes_two op a b x y f h e g =
       let i = made_has a x f.0 h.1 e in
       let j = made_has b y f.1 h.2 g in
       (two_typed op x y (width_of a) (width_of b) h.0 i.0 j.0 i.1 j.1).0
 
-  pub owes_three : (op : Op) (a b c x y z : Tree) → Fits by a × Fits by b × Fits by c → IsTyped (three op a b c) → within_height (substitute by a) ≡ Some x → within_height (substitute by b) ≡ Some y → within_height (substitute by c) ≡ Some z → IsTyped (three op x y z)
+  pub owes_three : (op : Op) (a b c x y z : Tree) → Fits by a × Fits by b × Fits by c → IsTyped (three op a b c) → (substitute by a).it ≡ x → (substitute by b).it ≡ y → (substitute by c).it ≡ z → IsTyped (three op x y z)
   owes_three op a b c x y z f h e g k =
       let i = made_has a x f.0 h.1 e in
       let j = made_has b y f.1 h.2 g in
       let l = made_has c z f.2 h.3 k in
       (three_typed op x y z (width_of a) (width_of b) (width_of c) h.0 i.0 j.0 l.0 i.1 j.1 l.1).0
 
--- ---- applications of what is made
+-- ---- definitions, step by step
 
-module _ (by : Replacements) (o m : List Node) (a : Tree) (x : TermId) (done : Builds o m (id_term m) (substitute by a) (Ok x)) where
-  pub one_builds : (l : List Node) (op : Op) (r : Result TermId TermFault) → Keeps m l → Builds m l (id_term l) (make (one op (id_term m x))) r → Builds o l (id_term l) (substitute by (one op a)) r
-  one_builds l op r k h = builds_then (id_term m) (id_term l) (substitute by a) (λ (u : Tree). make (one op u)) o m l x r k done h
+module _ (by : Replacements) where
+  abbrev pub one_steps : Op → Tree → Said ⊥ Tree
+  one_steps op a = said_then (said_of (substitute by a)) (λ x. said_of (make (one op x)))
 
-  pub sel_builds : (l : List Node) (f : Text) (r : Result TermId TermFault) → Keeps m l → Builds m l (id_term l) (select (replaced_array by f) (id_term m x)) r → Builds o l (id_term l) (substitute by (sel f a)) r
-  sel_builds l f r k h = builds_then (id_term m) (id_term l) (substitute by a) (λ (u : Tree). select (replaced_array by f) u) o m l x r k done h
+  abbrev pub two_steps : Op → Tree → Tree → Said ⊥ Tree
+  two_steps op a b = said_then (said_of (substitute by a)) (λ x. said_then (said_of (substitute by b)) (λ y. said_of (make (two op x y))))
 
-  module _ (typed : IsTyped (id_term m x)) (n : List Node) (k : Keeps m n) where
-    module _ (b : Tree) where
-      pub two_refused : (op : Op) (z : TermFault) → Builds m n (id_term n) (substitute by b) (Err z) → Builds o n (id_term n) (substitute by (two op a b)) (Err z)
-      two_refused op z h =
-          builds_then (id_term m) (id_term n) (substitute by a) (λ (u : Tree). made_then (substitute by b) (λ (v : Tree). make (two op u v))) o m n x (Err z) k done
-          (builds_err (id_term n) (id_term n) (substitute by b) (λ (v : Tree). make (two op (id_term m x) v)) m n z h)
+  abbrev pub three_steps : Op → Tree → Tree → Tree → Said ⊥ Tree
+  three_steps op a b c =
+      said_then (said_of (substitute by a)) (λ x. said_then (said_of (substitute by b)) (λ y. said_then (said_of (substitute by c)) (λ z. said_of (make (three op x y z)))))
 
-      pub three_refused_second : (op : Op) (c : Tree) (z : TermFault) → Builds m n (id_term n) (substitute by b) (Err z) → Builds o n (id_term n) (substitute by (three op a b c)) (Err z)
-      three_refused_second op c z h =
-          builds_then (id_term m) (id_term n) (substitute by a) (λ (u : Tree). made_then (substitute by b) (λ (v : Tree). made_then (substitute by c) (λ (w : Tree). make (three op u v w)))) o m n x (Err z) k done
-          (builds_err (id_term n) (id_term n) (substitute by b) (λ (v : Tree). made_then (substitute by c) (λ (w : Tree). make (three op (id_term m x) v w))) m n z h)
+  abbrev pub sel_steps : Text → Tree → Said ⊥ Tree
+  sel_steps f i = said_then (said_of (substitute by i)) (λ x. said_of (select (replaced_array by f) x))
 
-      module _ (y : TermId) (next : Builds m n (id_term n) (substitute by b) (Ok y)) where
-        pub two_builds : (l : List Node) (op : Op) (r : Result TermId TermFault) → Keeps n l → Builds n l (id_term l) (make (two op (id_term n x) (id_term n y))) r → Builds o l (id_term l) (substitute by (two op a b)) r
-        two_builds l op r q h =
-            builds_then (id_term m) (id_term l) (substitute by a) (λ (u : Tree). made_then (substitute by b) (λ (v : Tree). make (two op u v))) o m l x r (keeps_trans m n l k q) done
-            (builds_then (id_term n) (id_term l) (substitute by b) (λ (v : Tree). make (two op (id_term m x) v)) m n l y r q next
-            (subst (λ (u : Tree). Builds n l (id_term l) (make (two op u (id_term n y))) r) (keeps_term m n x.number k typed) h))
+  abbrev pub upd_steps : ArrayTree → Tree → Tree → Said ⊥ ArrayTree
+  upd_steps f i e =
+      said_then (said_of (substitute_array by f)) (λ g. said_then (said_of (substitute by i)) (λ j. said_then (said_of (substitute by e)) (λ d. said_of (update g j d))))
 
-        module _ (s : IsTyped (id_term n y)) (p : List Node) (q : Keeps n p) (c : Tree) where
-          pub three_refused : (op : Op) (z : TermFault) → Builds n p (id_term p) (substitute by c) (Err z) → Builds o p (id_term p) (substitute by (three op a b c)) (Err z)
-          three_refused op z h =
-              builds_then (id_term m) (id_term p) (substitute by a) (λ (u : Tree). made_then (substitute by b) (λ (v : Tree). made_then (substitute by c) (λ (w : Tree). make (three op u v w)))) o m p x (Err z) (keeps_trans m n p k q) done
-              (builds_then (id_term n) (id_term p) (substitute by b) (λ (v : Tree). made_then (substitute by c) (λ (w : Tree). make (three op (id_term m x) v w))) m n p y (Err z) q next
-              (builds_err (id_term p) (id_term p) (substitute by c) (λ (w : Tree). make (three op (id_term m x) (id_term n y) w)) n p z h))
+  abbrev pub splice_steps : ArrayTree → ArrayTree → Tree → Said ⊥ ArrayTree
+  splice_steps f g i =
+      said_then (said_of (substitute_array by f)) (λ a. said_then (said_of (substitute_array by g)) (λ b. said_then (said_of (substitute by i)) (λ j. said_of (join_at a b j))))
 
-          pub three_builds : (l : List Node) (op : Op) (z : TermId) (r : Result TermId TermFault) → Keeps p l → Builds n p (id_term p) (substitute by c) (Ok z) → Builds p l (id_term l) (make (three op (id_term p x) (id_term p y) (id_term p z))) r → Builds o l (id_term l) (substitute by (three op a b c)) r
-          three_builds l op z r e last h =
-              builds_then (id_term m) (id_term l) (substitute by a) (λ (u : Tree). made_then (substitute by b) (λ (v : Tree). made_then (substitute by c) (λ (w : Tree). make (three op u v w)))) o m l x r (keeps_trans m p l (keeps_trans m n p k q) e) done
-              (builds_then (id_term n) (id_term l) (substitute by b) (λ (v : Tree). made_then (substitute by c) (λ (w : Tree). make (three op (id_term m x) v w))) m n l y r (keeps_trans n p l q e) next
-              (builds_then (id_term p) (id_term l) (substitute by c) (λ (w : Tree). make (three op (id_term m x) (id_term n y) w)) n p l z r e last
-              (subst (λ (v : Tree). Builds p l (id_term l) (make (three op (id_term m x) v (id_term p z))) r) (keeps_term n p y.number q s)
-              (subst (λ (u : Tree). Builds p l (id_term l) (make (three op u (id_term p y) (id_term p z))) r) (keeps_term m p x.number (keeps_trans m n p k q) typed) h))))
+  module _ (old new : List Node) (r : Result TermId TermFault) where
+    pub one_makes : (op : Op) (a : TermId) → Makes old new id_term r (λ last. one_steps op (id_term last a)) → Makes old new id_term r (λ last. said_of (substitute by (one op (id_term last a))))
+    one_makes op a m = makes_more m (λ last k. covers_made (substitute by (id_term last a)) (λ x. make (one op x)))
+
+    pub two_makes : (op : Op) (a b : TermId) → Makes old new id_term r (λ last. two_steps op (id_term last a) (id_term last b)) → Makes old new id_term r (λ last. said_of (substitute by (two op (id_term last a) (id_term last b))))
+    two_makes op a b m = makes_more m (λ last k. covers_two (substitute by (id_term last a)) (λ x. substitute by (id_term last b)) (λ x y. make (two op x y)))
+
+    pub three_makes : (op : Op) (a b c : TermId) → Makes old new id_term r (λ last. three_steps op (id_term last a) (id_term last b) (id_term last c)) → Makes old new id_term r (λ last. said_of (substitute by (three op (id_term last a) (id_term last b) (id_term last c))))
+    three_makes op a b c m =
+        makes_more m (λ last k. covers_three (substitute by (id_term last a)) (λ x. substitute by (id_term last b)) (λ x y. substitute by (id_term last c)) (λ x y z. make (three op x y z)))
+
+    pub sel_makes : (f : Text) (i : TermId) → Makes old new id_term r (λ last. sel_steps f (id_term last i)) → Makes old new id_term r (λ last. said_of (substitute by (sel f (id_term last i))))
+    sel_makes f i m = makes_more m (λ last k. covers_made (substitute by (id_term last i)) (λ x. select (replaced_array by f) x))
+
+  module _ (old new : List Node) (r : Result ArrayId TermFault) where
+    pub upd_makes : (f : ArrayId) (i e : TermId) → Makes old new id_array r (λ last. upd_steps (id_array last f) (id_term last i) (id_term last e)) → Makes old new id_array r (λ last. said_of (substitute_array by (upd (id_array last f) (id_term last i) (id_term last e))))
+    upd_makes f i e m =
+        makes_more m (λ last k. covers_three (substitute_array by (id_array last f)) (λ g. substitute by (id_term last i)) (λ g j. substitute by (id_term last e)) (λ g j d. update g j d))
+
+    pub splice_makes : (f g : ArrayId) (i : TermId) → Makes old new id_array r (λ last. splice_steps (id_array last f) (id_array last g) (id_term last i)) → Makes old new id_array r (λ last. said_of (substitute_array by (splice (id_array last f) (id_array last g) (id_term last i))))
+    splice_makes f g i m =
+        makes_more m (λ last k. covers_three (substitute_array by (id_array last f)) (λ a. substitute_array by (id_array last g)) (λ a b. substitute by (id_term last i)) (λ a b j. join_at a b j))
+
+-- ---- what is known
+
+module _ (by : Replacements) (old new : List Node) (k : Keeps old new) where
+  pub fits_stays : (a : TermId) → IsTyped (id_term old a) → Fits by (id_term old a) → Fits by (id_term new a)
+  fits_stays a h f = subst (Fits by) (sym (term_stays old new k a h)) f
+
+  pub fits_array_stays : (a : ArrayId) → IsTypedArray (id_array old a) → FitsArray by (id_array old a) → FitsArray by (id_array new a)
+  fits_array_stays a h f = subst (FitsArray by) (sym (array_stays old new k a h)) f
+
+module _ (by : Replacements) (nodes : List Node) where
+  -- what stands for a term answers
+  pub known_makes : (t x : TermId) → StandsFor nodes by t.number x.number → Fits by (id_term nodes t) → Makes nodes nodes id_term (Ok x) (λ last. said_of (substitute by (id_term last t)))
+  known_makes t x h f =
+      let i = h.is f in
+      makes_here nodes id_term (Ok x) (λ last. said_of (substitute by (id_term last t)))
+      (λ last k.
+      let e = term_stays nodes last k t h.of in
+      (ap Answers (ap (λ (u : Tree). (substitute by u).it) e ∙ i.0 ∙ sym (term_stays nodes last k x h.typed)), subst (λ (u : Tree). AreLow (built (substitute by u))) (sym e) i.1))
+
+  pub known_array_makes : (t x : ArrayId) → StandsForArray nodes by t.number x.number → FitsArray by (id_array nodes t) → Makes nodes nodes id_array (Ok x) (λ last. said_of (substitute_array by (id_array last t)))
+  known_array_makes t x h f =
+      let i = h.is f in
+      makes_here nodes id_array (Ok x) (λ last. said_of (substitute_array by (id_array last t)))
+      (λ last k.
+      let e = array_stays nodes last k t h.of in
+      (ap Answers (ap (λ (u : ArrayTree). (substitute_array by u).it) e ∙ i.0 ∙ sym (array_stays nodes last k x h.typed)), subst (λ (u : ArrayTree). AreLow (built (substitute_array by u))) (sym e) i.1))
+
+  -- a term for which itself stands
+  pub same_makes : (t : TermId) → IsTyped (id_term nodes t) → substitute by (id_term nodes t) ≡ just (id_term nodes t) → Makes nodes nodes id_term (Ok t) (λ last. said_of (substitute by (id_term last t)))
+  same_makes t h e =
+      makes_here nodes id_term (Ok t) (λ last. said_of (substitute by (id_term last t)))
+      (λ last k.
+      let i = term_stays nodes last k t h in
+      let m : substitute by (id_term last t) ≡ just (id_term nodes t) = ap (substitute by) i ∙ e in
+      (ap Answers (ap (λ (u : Made Tree). u.it) m ∙ sym i), subst (λ (u : Made Tree). AreLow (built u)) (sym m) low_none))
+
+  pub same_array_makes : (t : ArrayId) → IsTypedArray (id_array nodes t) → substitute_array by (id_array nodes t) ≡ just (id_array nodes t) → Makes nodes nodes id_array (Ok t) (λ last. said_of (substitute_array by (id_array last t)))
+  same_array_makes t h e =
+      makes_here nodes id_array (Ok t) (λ last. said_of (substitute_array by (id_array last t)))
+      (λ last k.
+      let i = array_stays nodes last k t h in
+      let m : substitute_array by (id_array last t) ≡ just (id_array nodes t) = ap (substitute_array by) i ∙ e in
+      (ap Answers (ap (λ (u : Made ArrayTree). u.it) m ∙ sym i), subst (λ (u : Made ArrayTree). AreLow (built u)) (sym m) low_none))
+
+module _ (by : Replacements) (old new : List Node) where
+  -- what a call has made of a term stands for it
+  pub made_stands : (t x : TermId) → Keeps old new → IsTyped (id_term old t) → IsTyped (id_term new x) → (Fits by (id_term old t) → Makes old new id_term (Ok x) (λ last. said_of (substitute by (id_term last t)))) → StandsFor new by t.number x.number
+  made_stands t x k h g m =
+      let e = term_stays old new k t h in
+      record {
+        of = subst IsTyped (sym e) h;
+        typed = g;
+        is = λ f.
+            let a = (m (subst (Fits by) e f)).tells new (keeps_itself new) in
+            (answer_is (substitute by (id_term new t)).it (id_term new x) a.0, a.1);
+      }
+
+  pub made_array_stands : (t x : ArrayId) → Keeps old new → IsTypedArray (id_array old t) → IsTypedArray (id_array new x) → (FitsArray by (id_array old t) → Makes old new id_array (Ok x) (λ last. said_of (substitute_array by (id_array last t)))) → StandsForArray new by t.number x.number
+  made_array_stands t x k h g m =
+      let e = array_stays old new k t h in
+      record {
+        of = subst IsTypedArray (sym e) h;
+        typed = g;
+        is = λ f.
+            let a = (m (subst (FitsArray by) e f)).tells new (keeps_itself new) in
+            (answer_is (substitute_array by (id_array new t)).it (id_array new x) a.0, a.1);
+      }
+
+pub sel_name : (f g : Text) (i j : Tree) → sel f i ≡ sel g j → f ≡ g
+sel_name f g i j e = cc
+
+-- the term of a number by another name
+pub made_as : (by : Replacements) (old new : List Node) (r : Result TermId TermFault) (t : TermId) (f : List Node → Tree) → ((last : List Node) → Keeps old last → id_term last t ≡ f last) → Makes old new id_term r (λ last. said_of (substitute by (f last))) → Makes old new id_term r (λ last. said_of (substitute by (id_term last t)))
+made_as by old new r t f is m = makes_as m (λ last k. ap (λ (u : Tree). let s : Said ⊥ Tree = said_of (substitute by u) in s) (sym (is last (keeps_trans old new last m.kept k))))
+
+pub made_array_as : (by : Replacements) (old new : List Node) (r : Result ArrayId TermFault) (t : ArrayId) (f : List Node → ArrayTree) → ((last : List Node) → Keeps old last → id_array last t ≡ f last) → Makes old new id_array r (λ last. said_of (substitute_array by (f last))) → Makes old new id_array r (λ last. said_of (substitute_array by (id_array last t)))
+made_array_as by old new r t f is m = makes_as m (λ last k. ap (λ (u : ArrayTree). let s : Said ⊥ ArrayTree = said_of (substitute_array by u) in s) (sym (is last (keeps_trans old new last m.kept k))))
+
+-- it is as wide
+pub substitute_wide : (by : Replacements) (old new : List Node) (r : Result TermId TermFault) (t : TermId) → AreTyped by → IsTyped (id_term old t) → Fits by (id_term old t) → Makes old new id_term r (λ last. said_of (substitute by (id_term last t))) → IfOk r (λ id. width_of (id_term new id) ≡ width_of (id_term old t))
+substitute_wide by old new r t ok h f m =
+    let e = term_stays old new m.kept t h in
+    makes_has (λ (u : Tree). width_of u ≡ width_of (id_term old t)) old new id_term r (λ last. substitute by (id_term last t)) m
+    (subst (λ (u : Tree). width_of (substitute by u).it ≡ width_of (id_term old t)) (sym e) (substitute_typed by (id_term old t) ok f h).1)

@@ -7,7 +7,7 @@ use Rattle.std.proofs.lemmas.Option.{slice_get-map, slice_get_within}
 use Rattle.std.proofs.lemmas.Bool.Decides.{eqb_tells}
 use Rattle.bv_bits.specs.declared.Bits.{Bits}
 use Rattle.bv_bits.specs.declared.Op.{Op}
-use Rattle.term_tree.specs.Shapes.{is_other}
+use Rattle.term_rules.specs.Shapes.{is_other}
 use Rattle.term_tree.proofs.SameLemmas.{same_is, tree_itself}
 use Rattle.term_arena.specs.declared.node.TermId.{TermId}
 use Rattle.term_tree.specs.Terms.{Text, Tree, same_tree, IsTyped, IsTypedArray, width_of, HIGHEST}

@@ -1,12 +1,13 @@
 -- Making ends: each application on a right side is less work.
 use Rattle.std.proofs.Common.{◌≡◌, ℕ, ◌<◌, ◌≤◌, max, Some, arith}
 use Rattle.term_tree.specs.Terms.{Tree, lit, var, one, two, three, sel, IsTyped}
-use Rattle.term_tree.specs.Rules.{Right, given, made_one, made_two, rule_of}
-use Rattle.term_tree.specs.Making.{build, make, size}
-use Rattle.term_tree.specs.Laws.{IsTypedRight}
-use Rattle.term_tree.proofs.SizeLemmas.{IsWithin, work}
-use Rattle.term_tree.proofs.MakeLemmas.{calls_below}
-use Rattle.term_tree.proofs.TypedLemmas.{right_typed}
+use Rattle.term_rules.specs.Rules.{Right, given, made_one, made_two, rule_of}
+use Rattle.term_rules.specs.Making.{build, make}
+use Rattle.term_tree.specs.Sizes.{size}
+use Rattle.term_rules.specs.Laws.{IsTypedRight}
+use Rattle.term_rules.proofs.SizeLemmas.{IsWithin, work}
+use Rattle.term_rules.proofs.MakeLemmas.{calls_below}
+use Rattle.term_rules.proofs.TypedLemmas.{right_typed}
 
 -- the most work of an application on a right side
 abbrev pub right_work : Right → ℕ

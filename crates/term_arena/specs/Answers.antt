@@ -1,25 +1,15 @@
 -- What the calls of interned terms answer.
-use Rattle.std.specs.Prelude.{◌≡◌, ◌<◌, ⊤, slice_get, List, [], ◌∷◌, Option, Some, None, Result, Ok, Err}
+use Rattle.std.specs.Prelude.{◌≡◌, ◌<◌, slice_get, List, [], ◌∷◌, Option, Some, None}
 use Rattle.bv_bits.specs.declared.Bits.{Bits}
 use Rattle.bv_bits.specs.declared.Op.{Op}
-use Rattle.term_tree.specs.declared.term.TermFault.{TermFault}
-use Rattle.term_tree.specs.declared.term.TermFault.TheVariants as fault
 use Rattle.term_tree.specs.Terms.{Text, Tree, lit, ArrayTree, array, upd, splice}
-use Rattle.term_tree.specs.Making.{Made, within_height}
 use Rattle.term_arena.specs.declared.node.TermId.{TermId}
 use Rattle.term_arena.specs.declared.node.ArrayId.{ArrayId}
 use Rattle.term_arena.specs.declared.node.ArrayNode.{ArrayNode}
 use Rattle.term_arena.specs.declared.node.ArrayNode.TheVariants as array_top
 use Rattle.term_arena.specs.declared.node.TermNode.{TermNode}
 use Rattle.term_arena.specs.declared.node.TermNode.TheVariants as shown
-use Rattle.term_arena.specs.Nodes.{Node, lit_node, var_node, one_node, two_node, three_node, sel_node, array_node, term_at, array_at}
-
--- what is made, as the view shows it; too high exactly where a term that is too high would be made
-abbrev pub Gives : {T A : Type 0} → (T → A) → Made A → Result T TermFault → Type 0
-Gives view m (Ok t) = within_height m ≡ Some (view t)
-Gives view m (Err fault.TermTooHigh) = within_height m ≡ None
-Gives view m (Err fault.TooManyTerms) = ⊤
-Gives view m (Err fault.NoMemory) = ⊤
+use Rattle.term_arena.specs.Nodes.{Node, lit_node, var_node, one_node, two_node, three_node, sel_node, array_node, term_at, array_at, Keeps}
 
 -- the bits of a literal
 abbrev pub literal_of : Tree → Option Bits
@@ -48,13 +38,10 @@ id_term nodes id = term_at nodes id.number
 abbrev pub id_array : List Node → ArrayId → ArrayTree
 id_array nodes id = array_at nodes id.number
 
--- the top of an array term's node; its array terms stand before it
+-- the top of an array term's node, read over any list that keeps this one; its array terms stand before it
 abbrev pub IsArrayTop : List Node → ArrayId → ArrayNode → Type 0
-IsArrayTop nodes id array_top.Var = (x : Text) × (slice_get nodes id.number ≡ Some (array_node x)) × (id_array nodes id ≡ array x)
-IsArrayTop nodes id (array_top.Upd f i e) = (id_array nodes id ≡ upd (id_array nodes f) (id_term nodes i) (id_term nodes e)) × (f.number < id.number)
+IsArrayTop nodes id array_top.Var = (x : Text) × (slice_get nodes id.number ≡ Some (array_node x)) × ((last : List Node) → Keeps nodes last → id_array last id ≡ array x)
+IsArrayTop nodes id (array_top.Upd f i e) =
+    ((last : List Node) → Keeps nodes last → id_array last id ≡ upd (id_array last f) (id_term last i) (id_term last e)) × (f.number < id.number) × (i.number < id.number) × (e.number < id.number)
 IsArrayTop nodes id (array_top.Splice f g i) =
-    (id_array nodes id ≡ splice (id_array nodes f) (id_array nodes g) (id_term nodes i)) × (f.number < id.number) × (g.number < id.number)
-
--- an array term that is made of its parts
-abbrev pub stores : ArrayTree → Made ArrayTree
-stores f = record { it = f; asked = []; stored = f ∷ [] }
+    ((last : List Node) → Keeps nodes last → id_array last id ≡ splice (id_array last f) (id_array last g) (id_term last i)) × (f.number < id.number) × (g.number < id.number) × (i.number < id.number)

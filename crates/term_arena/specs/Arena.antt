@@ -1,6 +1,7 @@
 -- What holds of every list of interned terms, and of what the code keeps.
 use Rattle.std.specs.Prelude.{◌≡◌, ◌≢◌, ⊤, ℕ, ◌<◌, ◌≤◌, List, [], ◌∷◌, length, map, All, AllPairs, slice_index_or}
 use Rattle.term_tree.specs.Terms.{Text, IsTyped, IsTypedArray, IsTerm, IsArrayTerm, width_of, height, array_height}
+use Rattle.term_arena.specs.declared.keeping.TheConstants.{LIMIT}
 use Rattle.term_arena.specs.declared.node.TermId.{TermId}
 use Rattle.term_arena.specs.declared.node.Key.{Key}
 use Rattle.term_arena.specs.declared.node.Key.TheVariants as key
@@ -10,10 +11,6 @@ use Rattle.term_arena.specs.declared.node.NewNode.TheVariants as new_one
 use Rattle.term_arena.specs.Nodes.{Node, lit_node, var_node, one_node, two_node, three_node, sel_node, array_node, upd_node, splice_node, Meaning, of_term, of_array, meanings_of}
 
 -- ---- the list
-
--- how many nodes there may be
-abbrev pub LIMIT : ℕ
-LIMIT = 1048576
 
 -- a typed term or array term
 abbrev pub IsTypedMeaning : Meaning → Type 0

@@ -4,6 +4,9 @@ pub mod Arena
 pub mod Keeping
 pub mod Answers
 pub mod Built
+pub mod Said
+pub mod Makes
+pub mod Limits
 pub mod Renumbering
 pub mod Substituting
 pub mod Numbers

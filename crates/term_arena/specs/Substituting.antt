@@ -1,20 +1,18 @@
 -- Variables of interned terms that are replaced.
-use Rattle.std.specs.Prelude.{◌≡◌, ◌≢◌, ℕ, ◌<◌, List, [], Option, Some, None, Result, Err, All, map}
+use Rattle.std.specs.Prelude.{◌≡◌, ◌≢◌, ℕ, ◌<◌, List, [], Option, Some, None, All, map}
 use Rattle.bv_bits.specs.declared.Bits.{Bits}
-use Rattle.term_tree.specs.declared.term.TermFault.{TermFault}
-use Rattle.term_tree.specs.declared.term.TermFault.TheVariants as fault
 use Rattle.term_tree.specs.Terms.{Text, Tree, lit, var, one, two, three, sel, ArrayTree, array, IsTyped, IsTypedArray, width_of}
-use Rattle.term_tree.specs.Making.{Made, within_height}
-use Rattle.term_tree.specs.Replacing.{Replacements, substitute, substitute_array, Fits, FitsArray}
-use Rattle.term_tree.specs.Laws.{AreTyped}
+use Rattle.term_change.specs.Replacing.{Replacements, substitute, substitute_array, Fits, FitsArray}
+use Rattle.term_change.specs.Laws.{AreTyped}
 use Rattle.term_arena.specs.declared.node.TermId.{TermId}
 use Rattle.term_arena.specs.declared.node.ArrayId.{ArrayId}
 use Rattle.term_arena.specs.declared.substituting.TermTop.{TermTop}
 use Rattle.term_arena.specs.declared.substituting.TermTop.TheVariants as top
 use Rattle.term_arena.specs.declared.substituting.Replaced.{Replaced}
-use Rattle.term_arena.specs.Nodes.{Node, term_at, array_at}
-use Rattle.term_arena.specs.Answers.{Gives, id_term, id_array}
-use Rattle.term_arena.specs.Built.{built, AddsOnly, IsFull}
+use Rattle.term_arena.specs.Nodes.{Node, term_at, array_at, Keeps}
+use Rattle.term_arena.specs.Answers.{id_term, id_array}
+use Rattle.term_arena.specs.Built.{built}
+use Rattle.term_arena.specs.Makes.{AreLow}
 use Rattle.term_arena.specs.Renumbering.{number_for}
 
 -- ---- what is asked for
@@ -55,13 +53,13 @@ ReplacesArray nodes p = (f : Text) × (id_array nodes p.0 ≡ array f) × IsType
 pub record StandsFor (nodes : List Node) (by : Replacements) (n r : ℕ) : Type 0 where
   pub of : IsTyped (term_at nodes n)
   pub typed : IsTyped (term_at nodes r)
-  pub is : Fits by (term_at nodes n) → within_height (substitute by (term_at nodes n)) ≡ Some (term_at nodes r)
+  pub is : Fits by (term_at nodes n) → ((substitute by (term_at nodes n)).it ≡ term_at nodes r) × AreLow (built (substitute by (term_at nodes n)))
 
 -- the same of array terms
 pub record StandsForArray (nodes : List Node) (by : Replacements) (n r : ℕ) : Type 0 where
   pub of : IsTypedArray (array_at nodes n)
   pub typed : IsTypedArray (array_at nodes r)
-  pub is : FitsArray by (array_at nodes n) → within_height (substitute_array by (array_at nodes n)) ≡ Some (array_at nodes r)
+  pub is : FitsArray by (array_at nodes n) → ((substitute_array by (array_at nodes n)).it ≡ array_at nodes r) × AreLow (built (substitute_array by (array_at nodes n)))
 
 -- what is known to stand for terms and array terms does, and all that is to be replaced is known
 pub record Knows (nodes : List Node) (by : Replacements) (known : Replaced) : Type 0 where
@@ -71,23 +69,17 @@ pub record Knows (nodes : List Node) (by : Replacements) (known : Replaced) : Ty
   pub variables : All (λ p. (n r : ℕ) × (term_at nodes n ≡ var p.0 (width_of p.1)) × (number_for known.terms n ≡ Some r)) by.terms
   pub array_variables : All (λ p. (n r : ℕ) × (array_at nodes n ≡ array p.0) × (number_for known.arrays n ≡ Some r)) by.arrays
 
--- what a call that makes terms answers, which nodes it adds, and when it refuses for want of room
-pub record Builds {T A : Type 0} (old new : List Node) (view : T → A) (m : Made A) (r : Result T TermFault) : Type 0 where
-  pub gives : Gives view m r
-  pub adds : AddsOnly old new (built m)
-  pub full : r ≡ Err fault.TooManyTerms → IsFull new (built m)
-
 -- ---- tops of terms
 
--- the top of a term's node; its parts stand before it
+-- the top of a term's node, read over any list that keeps this one; its parts stand before it
 abbrev pub IsTop : List Node → ℕ → TermTop → Type 0
 IsTop nodes n top.Literal = (b : Bits) × (term_at nodes n ≡ lit b)
 IsTop nodes n top.Variable = (x : Text) × (w : ℕ) × (term_at nodes n ≡ var x w)
-IsTop nodes n (top.One op a) = (term_at nodes n ≡ one op (id_term nodes a)) × (a.number < n)
-IsTop nodes n (top.Two op a b) = (term_at nodes n ≡ two op (id_term nodes a) (id_term nodes b)) × (a.number < n) × (b.number < n)
+IsTop nodes n (top.One op a) = ((last : List Node) → Keeps nodes last → term_at last n ≡ one op (id_term last a)) × (a.number < n)
+IsTop nodes n (top.Two op a b) = ((last : List Node) → Keeps nodes last → term_at last n ≡ two op (id_term last a) (id_term last b)) × (a.number < n) × (b.number < n)
 IsTop nodes n (top.Three op a b c) =
-    (term_at nodes n ≡ three op (id_term nodes a) (id_term nodes b) (id_term nodes c)) × (a.number < n) × (b.number < n) × (c.number < n)
-IsTop nodes n (top.Sel i) = (f : Text) × (term_at nodes n ≡ sel f (id_term nodes i)) × (i.number < n)
+    ((last : List Node) → Keeps nodes last → term_at last n ≡ three op (id_term last a) (id_term last b) (id_term last c)) × (a.number < n) × (b.number < n) × (c.number < n)
+IsTop nodes n (top.Sel i) = (f : Text) × ((last : List Node) → Keeps nodes last → term_at last n ≡ sel f (id_term last i)) × (i.number < n)
 
 -- the number of an array variable's node, and none where it has none
 abbrev pub FindsArray : List Node → Text → Option ArrayId → Type 0

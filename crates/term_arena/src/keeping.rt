@@ -2,7 +2,7 @@
 
 ghost use Rattle.std.specs.Prelude.{◌≡◌, ◌≢◌, ◌≤◌, ◌<◌, ◌++◌, ◌⊎◌, [], ◌∷◌, length, map, false, slice_get, Some, Err, All, AllPairs, IfOk, OnErr};
 ghost use Rattle.term_arena.specs.Texts.{Grows};
-ghost use Rattle.term_arena.specs.Arena.{LIMIT, plain, IsNamed, asked_node};
+ghost use Rattle.term_arena.specs.Arena.{plain, IsNamed, asked_node};
 ghost use Rattle.term_arena.specs.Keeping.{Added, IsIn, HasArray};
 
 use crate::names::Names;

@@ -3,7 +3,9 @@
 ghost use Rattle.std.specs.Prelude.{◌≡◌, ℕ, List};
 ghost use Rattle.term_tree.specs.Terms.{IsTyped, IsTypedArray};
 ghost use Rattle.term_arena.specs.Nodes.{Node, term_at, array_at, Keeps};
-ghost use Rattle.term_arena.specs.Numbers.{Below};
+ghost use Rattle.term_arena.specs.Arena.{IsArena};
+ghost use Rattle.term_arena.specs.Limits.{FullExceeds};
+ghost use Rattle.term_arena.specs.Numbers.{Below, PartsStandBefore};
 
 /// Each list keeps itself, and what is kept on and on is kept. What a number stands for stays, as the list grows.
 pub fn kept_numbers()
@@ -18,4 +20,14 @@ pub fn kept_numbers()
 pub fn typed_numbers()
     ensures terms { (nodes : List Node) (i : ℕ) → IsTyped (term_at nodes i) → Below nodes i }
     ensures arrays { (nodes : List Node) (i : ℕ) → IsTypedArray (array_at nodes i) → Below nodes i }
+{}
+
+/// A call that has no room has, with the old nodes, more terms than there may be.
+pub fn limits()
+    ensures { FullExceeds }
+{}
+
+/// The parts of each node stand before it, of array terms too.
+pub fn parts_before()
+    ensures { (nodes : List Node) → IsArena nodes → PartsStandBefore nodes }
 {}

@@ -8,13 +8,12 @@ mod making;
 mod names;
 mod node;
 mod renumbering;
+mod replacing;
+mod replacing_arrays;
 mod selecting;
 mod substituting;
-#[cfg(test)]
-mod substituting_tests;
 mod terms;
-#[cfg(test)]
-mod tests;
+mod trees;
 
 pub use node::{ArrayId, TermId, TermNode};
 pub use terms::Terms;

@@ -2,22 +2,24 @@
 
 ghost use Rattle.std.specs.Prelude.{◌≡◌, ◌≢◌, ◌≤◌, ◌<◌, [], ◌∷◌, length, map, Err, None, IfOk, OnErr};
 ghost use Rattle.std.specs.Option.{option_map};
-ghost use Rattle.term_tree.specs.Terms.{IsTyped, IsTerm, applied, lit, height, HIGHEST};
+ghost use Rattle.term_tree.specs.Terms.{IsTyped, IsTerm, applied, width_of};
 ghost use Rattle.bv_bits.specs.Bits.{IsBits};
-ghost use Rattle.term_tree.specs.Rules.{rule_of};
-ghost use Rattle.term_tree.specs.Shapes.{right_of};
-ghost use Rattle.term_tree.specs.Laws.{IsTypedRight};
-ghost use Rattle.term_tree.specs.Making as spec;
-ghost use Rattle.term_arena.specs.Nodes.{of_term, as_term, meaning_by, meanings_of, Keeps};
-ghost use Rattle.term_arena.specs.Arena.{LIMIT, IsTypedMeaning, asked_node};
-ghost use Rattle.term_arena.specs.Keeping.{IsIn, HasArray};
-ghost use Rattle.term_arena.specs.Answers.{Gives, id_term};
-ghost use Rattle.term_arena.specs.Built.{built, AddsOnly, IsFull};
+ghost use Rattle.term_rules.specs.Rules.{rule_of};
+ghost use Rattle.term_rules.specs.Shapes.{right_of};
+ghost use Rattle.term_rules.specs.Laws.{IsTypedRight};
+ghost use Rattle.term_rules.specs.Making as spec;
+ghost use Rattle.term_arena.specs.Nodes.{as_term, meaning_by, meanings_of, Keeps};
+ghost use Rattle.term_arena.specs.Arena.{asked_node};
+ghost use Rattle.term_arena.specs.Keeping.{HasArray};
+ghost use Rattle.term_arena.specs.Answers.{id_term};
+ghost use Rattle.term_arena.specs.Said.{said_of, said_right, single, sole};
+ghost use Rattle.term_arena.specs.Makes.{Makes};
 
 use crate::node::{NewNode, TermId};
 use crate::terms::Terms;
-use bv_bits::{Bits, Op};
-use term_tree::{Right, TermFault, one_rule, three_rule, two_rule};
+use bv_bits::Op;
+use term_rules::{Right, one_rule, three_rule, two_rule};
+use term_tree::TermFault;
 
 impl Terms {
     /// The term that stands for an operator at arguments: the first rewrite rule that fits is applied, and every
@@ -28,12 +30,11 @@ impl Terms {
     #[cycle(making)]
     pub fn make(&mut self, op: Op, args: &[TermId]) -> Result<TermId, TermFault>
         requires typed { IsTyped (applied op (map (id_term self.old) args.now)) }
-        ensures answer { Gives (id_term self.new) (spec.make (applied op (map (id_term self.old) args.now))) result }
+        ensures makes { Makes self.old self.new id_term result (λ last. said_of (spec.make (applied op (map (id_term last) args.now)))) }
         ensures term { IfOk result (λ id. IsTerm (id_term self.new id)) }
-        ensures kept { Keeps self.old self.new }
-        ensures adds { AddsOnly self.old self.new (built (spec.make (applied op (map (id_term self.old) args.now)))) }
-        ensures full { result ≡ Err TermFault.TooManyTerms → IsFull self.new (built (spec.make (applied op (map (id_term self.old) args.now)))) }
+        ensures wide { IfOk result (λ id. width_of (id_term self.new id) ≡ width_of (applied op (map (id_term self.old) args.now))) }
     {
+        self.laws();
         match self.right_side(op, args) {
             Some(right) => self.build(right),
             None => self.plain(op, args),
@@ -44,24 +45,21 @@ impl Terms {
     #[cycle(making)]
     fn build(&mut self, right: Right<TermId>) -> Result<TermId, TermFault>
         requires typed { IsTypedRight (right_of (id_term self.old) right) }
-        ensures answer { Gives (id_term self.new) (spec.build spec.make (right_of (id_term self.old) right)) result }
+        ensures makes { Makes self.old self.new id_term result (λ last. said_right (right_of (id_term last) right)) }
         ensures term { IfOk result (λ id. IsTerm (id_term self.new id)) }
-        ensures kept { Keeps self.old self.new }
-        ensures adds { AddsOnly self.old self.new (of_term (spec.build spec.make (right_of (id_term self.old) right)).it ∷ built (spec.build spec.make (right_of (id_term self.old) right))) }
-        ensures full { result ≡ Err TermFault.TooManyTerms → IsFull self.new (of_term (spec.build spec.make (right_of (id_term self.old) right)).it ∷ built (spec.build spec.make (right_of (id_term self.old) right))) }
     {
         self.laws();
         match right {
             Right::Given(id) => Ok(id),
-            Right::Literal(b) => self.number(b),
+            Right::Literal(b) => self.add_term(NewNode::Lit(b)),
             Right::One { op, a } => self.make(op, &[a]),
             Right::Two { op, a, b } => self.make(op, &[a, b]),
-            Right::WithLiteral { op, a, c } => match self.number(c) {
+            Right::WithLiteral { op, a, c } => match self.add_term(NewNode::Lit(c)) {
                 Ok(c) => self.make(op, &[a, c]),
                 Err(fault) => Err(fault),
             },
             Right::PlusLiteral { op, a, b, c } => match self.make(op, &[a, b]) {
-                Ok(sum) => match self.number(c) {
+                Ok(sum) => match self.add_term(NewNode::Lit(c)) {
                     Ok(c) => self.make(Op::Add, &[sum, c]),
                     Err(fault) => Err(fault),
                 },
@@ -86,11 +84,8 @@ impl Terms {
     /// The application of an operator as it is.
     fn plain(&mut self, op: Op, args: &[TermId]) -> Result<TermId, TermFault>
         requires typed { IsTyped (applied op (map (id_term self.old) args.now)) }
-        ensures answer { Gives (id_term self.new) (spec.asks (applied op (map (id_term self.old) args.now)) (spec.just (applied op (map (id_term self.old) args.now)))) result }
+        ensures makes { Makes self.old self.new id_term result (λ last. single (applied op (map (id_term last) args.now))) }
         ensures term { IfOk result (λ id. IsTerm (id_term self.new id)) }
-        ensures kept { Keeps self.old self.new }
-        ensures adds { AddsOnly self.old self.new (built (spec.asks (applied op (map (id_term self.old) args.now)) (spec.just (applied op (map (id_term self.old) args.now))))) }
-        ensures full { result ≡ Err TermFault.TooManyTerms → IsFull self.new (built (spec.asks (applied op (map (id_term self.old) args.now)) (spec.just (applied op (map (id_term self.old) args.now))))) }
     {
         match args {
             [a] => self.add_term(NewNode::One { op, a: *a }),
@@ -105,31 +100,12 @@ impl Terms {
         }
     }
 
-    /// The literal of these bits.
-    fn number(&mut self, b: Bits) -> Result<TermId, TermFault>
-        requires bits { IsBits b }
-        ensures made { IfOk result (λ id. id_term self.new id ≡ lit b) }
-        ensures kept { Keeps self.old self.new }
-        ensures adds { AddsOnly self.old self.new (of_term (lit b) ∷ []) }
-        ensures full { result ≡ Err TermFault.TooManyTerms → IsFull self.new (of_term (lit b) ∷ []) }
-        ensures low { result ≢ Err TermFault.TermTooHigh }
-    {
-        self.add_term(NewNode::Lit(b))
-    }
-
     /// Adds the node of a term, where it isn't there yet.
     pub(crate) fn add_term(&mut self, node: NewNode<'_>) -> Result<TermId, TermFault>
         requires typed { IsTyped (as_term (meaning_by (meanings_of self.old) (asked_node self.old node))) }
         requires array { HasArray self.old node }
-        ensures answer { Gives (id_term self.new) (spec.asks (as_term (meaning_by (meanings_of self.old) (asked_node self.old node.entry))) (spec.just (as_term (meaning_by (meanings_of self.old) (asked_node self.old node.entry))))) result }
-        ensures made { IfOk result (λ id. id_term self.new id ≡ as_term (meaning_by (meanings_of self.old) (asked_node self.old node.entry))) }
+        ensures makes { Makes self.old self.new id_term result (λ last. sole as_term (meaning_by (meanings_of last) (asked_node self.old node.entry))) }
         ensures term { IfOk result (λ id. IsTerm (id_term self.new id)) }
-        ensures kept { Keeps self.old self.new }
-        ensures err { OnErr result (self.new ≡ self.old) }
-        ensures adds { AddsOnly self.old self.new (of_term (as_term (meaning_by (meanings_of self.old) (asked_node self.old node.entry))) ∷ []) }
-        ensures full { result ≡ Err TermFault.TooManyTerms → (length self.old ≡ LIMIT) × (IsIn (asked_node self.old node.entry) self.old → ⊥) }
-        ensures lacks { result ≡ Err TermFault.TooManyTerms → IsFull self.new (of_term (as_term (meaning_by (meanings_of self.old) (asked_node self.old node.entry))) ∷ []) }
-        ensures high { result ≡ Err TermFault.TermTooHigh → HIGHEST < height (as_term (meaning_by (meanings_of self.old) (asked_node self.old node.entry))) }
     {
         self.laws();
         match self.add(node) {

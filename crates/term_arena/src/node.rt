@@ -4,21 +4,21 @@ use bv_bits::{Bits, Op};
 use lex_core::Name;
 
 /// A term: its place in the list of nodes of the `Terms` that gave it.
-#[derive(Debug, Clone, Copy, PartialEq, Eq, Hash)]
+#[derive(Clone, Copy, PartialEq, Eq, Hash)]
 pub struct TermId {
     /// The place.
     pub number: u32,
 }
 
 /// An array term: its place in the list of nodes of the `Terms` that gave it.
-#[derive(Debug, Clone, Copy, PartialEq, Eq, Hash)]
+#[derive(Clone, Copy, PartialEq, Eq, Hash)]
 pub struct ArrayId {
     /// The place.
     pub number: u32,
 }
 
 /// The node of a term.
-#[derive(Debug, Clone, Copy, Drop)]
+#[derive(Clone, Copy, Drop)]
 pub enum TermNode<'t> {
     /// A literal.
     Lit(Bits),
@@ -31,7 +31,7 @@ pub enum TermNode<'t> {
 }
 
 /// The node of an array term.
-#[derive(Debug, Clone, Copy, Drop)]
+#[derive(Clone, Copy, Drop)]
 pub enum ArrayNode {
     /// An array variable.
     Var,
@@ -50,7 +50,7 @@ pub enum ArrayNode {
 }
 
 /// A node as it is kept: names by their numbers.
-#[derive(Debug, Clone, Copy, PartialEq, Eq, Hash)]
+#[derive(Clone, Copy, PartialEq, Eq, Hash)]
 pub enum Key {
     /// A literal.
     Lit(Bits),
@@ -101,7 +101,7 @@ pub enum Key {
 }
 
 /// A node that is asked for.
-#[derive(Debug, Clone, Copy, Drop)]
+#[derive(Clone, Copy, Drop)]
 pub enum NewNode<'n> {
     /// A literal.
     Lit(Bits),
@@ -158,7 +158,7 @@ pub enum NewNode<'n> {
 
 /// What is known of a node: the width of a term (0 of an array term), the height, and the arguments of an operator,
 /// filled up to three.
-#[derive(Debug, Clone, Copy, Drop)]
+#[derive(Clone, Copy, Drop)]
 pub struct Facts {
     pub width: u32,
     pub height: u32,

@@ -1,14 +1,15 @@
 // Bytes of array terms, and array terms with one byte changed, on numbers.
 
 ghost use Rattle.std.specs.Prelude.{◌≡◌, ◌≢◌, ◌≤◌, ◌<◌, ◌++◌, ◌⊎◌, [], ◌∷◌, length, Err, IfOk, OnErr};
-ghost use Rattle.term_tree.specs.Terms.{IsTyped, IsTypedArray, IsTerm, IsArrayTerm, IsIndex, width_of, array_height, HIGHEST};
-ghost use Rattle.term_tree.specs.Making as spec;
-ghost use Rattle.term_tree.specs.Replacing as replace;
-ghost use Rattle.term_arena.specs.Nodes.{of_array, as_array, upd_node, meaning_by, meanings_of, Keeps};
-ghost use Rattle.term_arena.specs.Arena.{LIMIT, asked_node};
-ghost use Rattle.term_arena.specs.Keeping.{IsIn, HasArray};
-ghost use Rattle.term_arena.specs.Answers.{Gives, id_term, id_array, stores};
-ghost use Rattle.term_arena.specs.Built.{built, AddsOnly, IsFull};
+ghost use Rattle.term_tree.specs.Terms.{upd, splice, IsTyped, IsTypedArray, IsTerm, IsArrayTerm, IsIndex, width_of};
+ghost use Rattle.term_change.specs.Selecting.{select};
+ghost use Rattle.term_change.specs.Replacing as replace;
+ghost use Rattle.term_arena.specs.Nodes.{as_array, meaning_by, meanings_of, Keeps};
+ghost use Rattle.term_arena.specs.Arena.{asked_node};
+ghost use Rattle.term_arena.specs.Keeping.{HasArray};
+ghost use Rattle.term_arena.specs.Answers.{id_term, id_array};
+ghost use Rattle.term_arena.specs.Said.{said_of, sole};
+ghost use Rattle.term_arena.specs.Makes.{Makes};
 
 use crate::node::{ArrayId, ArrayNode, NewNode, TermId};
 use crate::terms::Terms;
@@ -22,52 +23,82 @@ impl Terms {
     ///
     /// The index is 64 bits wide. `TermTooHigh` comes exactly where a term of height 1,025 would be made, as the result or
     /// on the way.
+    #[cycle(selecting)]
     pub fn select(&mut self, of: ArrayId, at: TermId) -> Result<TermId, TermFault>
         requires array { IsTypedArray (id_array self.old of) }
         requires index { IsIndex (id_term self.old at) }
-        ensures answer { Gives (id_term self.new) (spec.select (id_array self.old of) (id_term self.old at)) result }
+        ensures makes { Makes self.old self.new id_term result (λ last. said_of (select (id_array last of) (id_term last at))) }
         ensures term { IfOk result (λ id. IsTerm (id_term self.new id)) }
-        ensures kept { Keeps self.old self.new }
-        ensures adds { AddsOnly self.old self.new (built (spec.select (id_array self.old of) (id_term self.old at))) }
-        ensures full { result ≡ Err TermFault.TooManyTerms → IsFull self.new (built (spec.select (id_array self.old of) (id_term self.old at))) }
+        ensures wide { IfOk result (λ id. width_of (id_term self.new id) ≡ 8) }
     {
+        self.laws();
         match self.array_node(of) {
             ArrayNode::Var => self.add_term(NewNode::SelOf { of, at }),
             ArrayNode::Upd {
                 of: rest,
                 at: place,
                 by,
-            } => {
-                let same = match self.make(Op::Eq, &[at, place]) {
-                    Ok(same) => same,
-                    Err(fault) => return Err(fault),
-                };
-                let other = match self.select(rest, at) {
-                    Ok(other) => other,
-                    Err(fault) => return Err(fault),
-                };
-                self.make(Op::Ite, &[same, by, other])
-            }
+            } => self.select_updated(rest, place, by, at),
             ArrayNode::Splice {
                 of: rest,
                 below,
                 at: place,
-            } => {
-                let low = match self.make(Op::ULt, &[at, place]) {
-                    Ok(low) => low,
-                    Err(fault) => return Err(fault),
-                };
-                let one = match self.select(below, at) {
-                    Ok(one) => one,
-                    Err(fault) => return Err(fault),
-                };
-                let other = match self.select(rest, at) {
-                    Ok(other) => other,
-                    Err(fault) => return Err(fault),
-                };
-                self.make(Op::Ite, &[low, one, other])
-            }
+            } => self.select_spliced(rest, below, place, at),
         }
+    }
+
+    /// The byte of an array but for one byte.
+    #[cycle(selecting)]
+    fn select_updated(
+        &mut self,
+        rest: ArrayId,
+        place: TermId,
+        by: TermId,
+        at: TermId,
+    ) -> Result<TermId, TermFault>
+        requires array { IsTypedArray (upd (id_array self.old rest) (id_term self.old place) (id_term self.old by)) }
+        requires index { IsIndex (id_term self.old at) }
+        ensures makes { Makes self.old self.new id_term result (λ last. said_of (select (upd (id_array last rest) (id_term last place) (id_term last by)) (id_term last at))) }
+        ensures term { IfOk result (λ id. IsTerm (id_term self.new id)) }
+    {
+        let same = match self.make(Op::Eq, &[at, place]) {
+            Ok(same) => same,
+            Err(fault) => return Err(fault),
+        };
+        let other = match self.select(rest, at) {
+            Ok(other) => other,
+            Err(fault) => return Err(fault),
+        };
+        self.make(Op::Ite, &[same, by, other])
+    }
+
+    /// The byte of two arrays that are joined at an index.
+    #[cycle(selecting)]
+    fn select_spliced(
+        &mut self,
+        rest: ArrayId,
+        below: ArrayId,
+        place: TermId,
+        at: TermId,
+    ) -> Result<TermId, TermFault>
+        requires array { IsTypedArray (splice (id_array self.old rest) (id_array self.old below) (id_term self.old place)) }
+        requires index { IsIndex (id_term self.old at) }
+        ensures makes { Makes self.old self.new id_term result (λ last. said_of (select (splice (id_array last rest) (id_array last below) (id_term last place)) (id_term last at))) }
+        ensures term { IfOk result (λ id. IsTerm (id_term self.new id)) }
+    {
+        let low = match self.make(Op::ULt, &[at, place]) {
+            Ok(low) => low,
+            Err(fault) => return Err(fault),
+        };
+        let one = match self.select(below, at) {
+            Ok(one) => one,
+            Err(fault) => return Err(fault),
+        };
+        let other = match self.select(rest, at) {
+            Ok(other) => other,
+            Err(fault) => return Err(fault),
+        };
+        self.make(Op::Ite, &[low, one, other])
     }
 
     /// The array term that is another one, but for the byte at an index.
@@ -78,30 +109,40 @@ impl Terms {
         requires array { IsTypedArray (id_array self.old of) }
         requires index { IsIndex (id_term self.old at) }
         requires byte { (width_of (id_term self.old by) ≡ 8) × IsTyped (id_term self.old by) }
-        ensures answer { Gives (id_array self.new) (replace.update (id_array self.old of) (id_term self.old at) (id_term self.old by)) result }
+        ensures makes { Makes self.old self.new id_array result (λ last. said_of (replace.update (id_array last of) (id_term last at) (id_term last by))) }
         ensures array { IfOk result (λ id. IsArrayTerm (id_array self.new id)) }
-        ensures kept { Keeps self.old self.new }
         ensures err { OnErr result (self.new ≡ self.old) }
-        ensures adds { (self.new ≡ self.old) ⊎ (self.new ≡ self.old ++ upd_node of.number at.number by.number ∷ []) }
-        ensures full { result ≡ Err TermFault.TooManyTerms → (length self.old ≡ LIMIT) × (IsIn (upd_node of.number at.number by.number) self.old → ⊥) }
     {
         self.add_array(NewNode::Upd { of, at, by })
+    }
+
+    /// The first array term from an index on, and the second one below it.
+    ///
+    /// The index is 64 bits wide. `TermTooHigh` comes exactly where the array term would be 1,025 high. After a refusal the
+    /// list of nodes is as before.
+    pub(crate) fn join(
+        &mut self,
+        of: ArrayId,
+        below: ArrayId,
+        at: TermId,
+    ) -> Result<ArrayId, TermFault>
+        requires array { IsTypedArray (id_array self.old of) }
+        requires low_array { IsTypedArray (id_array self.old below) }
+        requires index { IsIndex (id_term self.old at) }
+        ensures makes { Makes self.old self.new id_array result (λ last. said_of (replace.join_at (id_array last of) (id_array last below) (id_term last at))) }
+        ensures array { IfOk result (λ id. IsArrayTerm (id_array self.new id)) }
+        ensures err { OnErr result (self.new ≡ self.old) }
+    {
+        self.add_array(NewNode::Splice { of, below, at })
     }
 
     /// Adds the node of an array term, where it isn't there yet.
     pub(crate) fn add_array(&mut self, node: NewNode<'_>) -> Result<ArrayId, TermFault>
         requires typed { IsTypedArray (as_array (meaning_by (meanings_of self.old) (asked_node self.old node))) }
         requires array { HasArray self.old node }
-        ensures answer { Gives (id_array self.new) (stores (as_array (meaning_by (meanings_of self.old) (asked_node self.old node.entry)))) result }
-        ensures made { IfOk result (λ id. id_array self.new id ≡ as_array (meaning_by (meanings_of self.old) (asked_node self.old node.entry))) }
+        ensures makes { Makes self.old self.new id_array result (λ last. sole as_array (meaning_by (meanings_of last) (asked_node self.old node.entry))) }
         ensures array { IfOk result (λ id. IsArrayTerm (id_array self.new id)) }
-        ensures kept { Keeps self.old self.new }
-        ensures added { (self.new ≡ self.old) ⊎ (self.new ≡ self.old ++ asked_node self.old node.entry ∷ []) }
-        ensures adds { AddsOnly self.old self.new (of_array (as_array (meaning_by (meanings_of self.old) (asked_node self.old node.entry))) ∷ []) }
         ensures err { OnErr result (self.new ≡ self.old) }
-        ensures full { result ≡ Err TermFault.TooManyTerms → (length self.old ≡ LIMIT) × (IsIn (asked_node self.old node.entry) self.old → ⊥) }
-        ensures lacks { result ≡ Err TermFault.TooManyTerms → IsFull self.new (of_array (as_array (meaning_by (meanings_of self.old) (asked_node self.old node.entry))) ∷ []) }
-        ensures high { result ≡ Err TermFault.TermTooHigh → HIGHEST < array_height (as_array (meaning_by (meanings_of self.old) (asked_node self.old node.entry))) }
     {
         self.laws();
         match self.add(node) {

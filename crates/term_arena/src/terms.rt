@@ -3,7 +3,8 @@
 ghost use Rattle.std.specs.Prelude.{◌≡◌, ◌≢◌, ◌≤◌, ◌<◌, ◌++◌, ◌⊎◌, [], ◌∷◌, length, slice_get, Some, Err, IfOk, OnErr};
 ghost use Rattle.term_tree.specs.Terms.{Text, Tree, sel, IsTyped, IsTypedArray, width_of, HIGHEST};
 ghost use Rattle.term_arena.specs.Nodes.{term_at, array_at, meaning_at, meaning_by, meanings_of, as_term, Keeps};
-ghost use Rattle.term_arena.specs.Arena.{LIMIT, IsArena, IsTypedMeaning, width_in, height_in, asked_node, arguments};
+ghost use Rattle.term_arena.specs.declared.keeping.TheConstants.{LIMIT};
+ghost use Rattle.term_arena.specs.Arena.{IsArena, IsTypedMeaning, width_in, height_in, asked_node, arguments};
 ghost use Rattle.term_arena.specs.Keeping.{IsIn, HasArray, TypedAreNamed, TypedArraysAreNamed, EqualTermsAreOne, EqualArraysAreOne};
 ghost use Rattle.term_arena.specs.Answers.{literal_of, node_of, IsArrayTop};
 ghost use Rattle.term_arena.specs.Substituting.{FindsArray};
@@ -16,7 +17,8 @@ use indexmap::IndexSet;
 use lex_core::NoMemory;
 use std::alloc::Global;
 use std::marker::Model;
-use term_tree::{HIGHEST, Nodes, Shape, TermFault};
+use term_rules::{Nodes, Shape};
+use term_tree::{HIGHEST, TermFault};
 
 /// Interned terms, which contracts see as one list of distinct nodes of terms and of array terms. A number stands for the
 /// node at that place, and the parts of a node stand before it.
@@ -192,10 +194,10 @@ impl Terms {
         match node {
             NewNode::Lit(b) => b.width,
             NewNode::Var { name: _, width } => width,
-            NewNode::One { op, a } => op.result_width(&[self.width(a)]).unwrap(),
-            NewNode::Two { op, a, b } => op.result_width(&[self.width(a), self.width(b)]).unwrap(),
+            NewNode::One { op, a } => op.row_width(&[self.width(a)]).unwrap(),
+            NewNode::Two { op, a, b } => op.row_width(&[self.width(a), self.width(b)]).unwrap(),
             NewNode::Three { op, a, b, c } => op
-                .result_width(&[self.width(a), self.width(b), self.width(c)])
+                .row_width(&[self.width(a), self.width(b), self.width(c)])
                 .unwrap(),
             NewNode::Sel { of: _, at: _ } => 8,
             NewNode::SelOf { of: _, at: _ } => 8,

@@ -8,7 +8,7 @@ use Rattle.bv_bits.specs.declared.Bits.{Bits}
 use Rattle.bv_bits.specs.Bits.{IsBits, IsWidth}
 use Rattle.term_tree.specs.Terms.{Text}
 use Rattle.term_tree.specs.Values.{IsValues, Pairs, IsPairs, first_bits, first_byte, first_array, values_of}
-use Rattle.term_tree.proofs.ReplaceLemmas.{found}
+use Rattle.term_tree.proofs.FoundLemmas.{found}
 
 bits_found : (pairs : List (Text × Bits)) → All (λ q. IsBits q.1) pairs → (x : Text) (w : ℕ) → IsWidth w → IsBits (first_bits pairs x w) × ((first_bits pairs x w).width ≡ w)
 bits_found pairs all x w h =

@@ -1,4 +1,4 @@
-// The distinct parts of terms, in order.
+//! The distinct parts of terms, in order.
 
 ghost use Rattle.std.specs.Prelude.{◌≡◌, ◌∷◌, [], map, All, IfOk};
 ghost use Rattle.term_tree.specs.Terms.{IsTerm};

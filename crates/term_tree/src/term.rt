@@ -1,3 +1,5 @@
+//! Terms, array terms, valuations, declared variables, and why a term was not made.
+
 use bv_bits::{Bits, Op};
 use lex_core::{Name, NoMemory};
 use sqlite_items::{Boxed, Items};
@@ -7,7 +9,7 @@ use std::alloc::AllocError;
 ///
 /// Every call that takes a term has the condition that it is typed and at most 1,024 high, and every call that gives one
 /// promises that: each operator has arguments that it takes, each index is 64 bits wide, and widths are 1 to 128.
-#[derive(Debug, Drop)]
+#[derive(Drop)]
 pub enum Term {
     /// A literal.
     Lit(Bits),
@@ -20,7 +22,7 @@ pub enum Term {
 }
 
 /// A term over arrays: a byte for each index of 64 bits.
-#[derive(Debug, Drop)]
+#[derive(Drop)]
 pub enum ArrayTerm {
     /// An array variable.
     Var(Name),
@@ -40,7 +42,7 @@ pub enum ArrayTerm {
 
 /// Values of variables. Of the pairs for one variable the first counts: of a name and the width of its bits, or of an
 /// array's name, or of an index. A variable without a pair is 0, and so is the byte of an index without one.
-#[derive(Debug, Drop)]
+#[derive(Drop)]
 pub struct Valuation {
     /// The bits of variables.
     pub bits: Items<(Name, Bits)>,
@@ -58,7 +60,7 @@ pub enum Sort {
 }
 
 /// A variable and its sort.
-#[derive(Debug, Drop)]
+#[derive(Drop)]
 pub struct VarDecl {
     /// Its name.
     pub name: Name,

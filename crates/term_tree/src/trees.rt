@@ -1,4 +1,4 @@
-// Terms as trees: their tops, widths and heights, whether two are the same, and copies.
+//! Terms as trees: their tops, widths and heights, whether two are the same, and copies.
 
 ghost use Rattle.std.specs.Prelude.{◌≡◌, ◌≤◌, [], ◌∷◌, map, All, IfOk};
 ghost use Rattle.bv_bits.specs.Bits.{result_width_of};
@@ -7,7 +7,6 @@ ghost use Rattle.term_tree.specs.View.{tree, array_tree};
 ghost use Rattle.term_tree.specs.Forms.{IsForm};
 ghost use Rattle.term_tree.specs.ArrayForms.{IsArrayForm};
 
-use crate::rules::{Nodes, Shape};
 use crate::term::{ArrayTerm, Term};
 use bv_bits::{Bits, Op};
 use lex_core::{Name, NoMemory};
@@ -16,35 +15,6 @@ use std::alloc::Global;
 
 /// How high a term may be.
 pub const HIGHEST: u32 = 1024;
-
-/// Terms that stand for themselves.
-#[derive(Debug, Clone, Copy, Drop)]
-pub struct Trees;
-
-impl<'t> Nodes<&'t Term> for Trees {
-    ghost tree = { λ _ t. tree t.now };
-
-    fn shape(&self, of: &'t Term) -> Shape<&'t Term> {
-        match of {
-            Term::Lit(b) => Shape::Lit(*b),
-            Term::App { op, args } => match args.as_slice() {
-                [a] => Shape::One { op: *op, a },
-                [a, b] => Shape::Two { op: *op, a, b },
-                [_, _, _] => Shape::Other,
-                _ => unreachable!(),
-            },
-            _ => Shape::Other,
-        }
-    }
-
-    fn width(&self, of: &'t Term) -> u32 {
-        width(of)
-    }
-
-    fn same(&self, a: &'t Term, b: &'t Term) -> bool {
-        same(a, b)
-    }
-}
 
 /// The width of a term in bits.
 pub fn width(term: &Term) -> u32
@@ -55,9 +25,9 @@ pub fn width(term: &Term) -> u32
         Term::Lit(b) => b.width,
         Term::Var { name: _, width } => *width,
         Term::App { op, args } => match args.as_slice() {
-            [a] => op.result_width(&[width(a)]).unwrap(),
-            [a, b] => op.result_width(&[width(a), width(b)]).unwrap(),
-            [a, b, c] => op.result_width(&[width(a), width(b), width(c)]).unwrap(),
+            [a] => op.row_width(&[width(a)]).unwrap(),
+            [a, b] => op.row_width(&[width(a), width(b)]).unwrap(),
+            [a, b, c] => op.row_width(&[width(a), width(b), width(c)]).unwrap(),
             _ => unreachable!(),
         },
         Term::Sel { of: _, at: _ } => 8,
@@ -72,7 +42,7 @@ pub fn same_op(one: Op, two: Op) -> bool
 }
 
 /// A term, one form at a time, with its parts.
-#[derive(Debug, Clone, Copy, Drop)]
+#[derive(Clone, Copy, Drop)]
 pub enum Form<'t> {
     /// A literal.
     Lit(Bits),
@@ -128,7 +98,7 @@ pub fn form_of<'t>(term: &'t Term) -> Form<'t>
 }
 
 /// An array term, one form at a time, with its parts.
-#[derive(Debug, Clone, Copy, Drop)]
+#[derive(Clone, Copy, Drop)]
 pub enum ArrayForm<'t> {
     /// An array variable.
     Var {

@@ -1,4 +1,4 @@
-// The values of terms.
+//! The values of terms.
 
 ghost use Rattle.std.specs.Prelude.{◌≡◌, ◌<◌, ◌^◌, [], ◌∷◌};
 ghost use Rattle.bv_bits.specs.Bits.{IsBits, IsWidth};
@@ -70,7 +70,7 @@ impl VariableValues for Valuation {
 }
 
 /// One variable's bits: every other variable is 0.
-#[derive(Debug, Clone, Copy, Drop)]
+#[derive(Clone, Copy, Drop)]
 struct OneVariable<'t> {
     name: &'t [u8],
     bits: Bits,
@@ -93,7 +93,7 @@ impl<'t> VariableValues for OneVariable<'t> {
 }
 
 /// The value of a term, whatever tells the values of variables.
-#[tactic(auto, using(crate::proofs::RuleLemmas::value_fits))]
+#[tactic(auto, using(crate::proofs::FitLemmas::value_fits))]
 pub fn value_in<V: VariableValues>(term: &Term, at: &V) -> Bits
     requires typed { IsTyped (tree term.now) }
     requires values { IsValues (V.values at.now) }

@@ -2,7 +2,7 @@ use Rattle.std.proofs.Common.{◌≡◌, ◌+◌, ◌*◌, ◌-◌, [], map, dro
 use Rattle.sail_eval.specs.Eval.{eval_chain, eval_rest, eval_all, eval_arms, eval_steps, turns, turn}
 use Rattle.sail_eval.specs.Inside.{calls_in}
 use Rattle.sail_syntax.specs.View.{tree, trees, choice_of, cases_of, step_of, steps_of}
-use Rattle.sail_eval.specs.declared.value.Value.TheVariants as value
+use Rattle.sail_values.specs.declared.value.Value.TheVariants as value
 use Rattle.state_core.specs.State.{widths_of}
 use Rattle.state_core.specs.World.{world_of}
 use Rattle.sail_eval.proofs.Weight.{weight}

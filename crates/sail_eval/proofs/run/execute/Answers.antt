@@ -5,7 +5,7 @@ use Rattle.state_core.specs.World.{world_of}
 use Rattle.sail_eval.specs.Agrees.{Comes}
 use Rattle.sail_eval.specs.Eval.{call_of}
 use Rattle.sail_eval.specs.Instr.{instr_of, word_value}
-use Rattle.sail_eval.specs.Typing.{instr_name}
+use Rattle.sail_types.specs.Typing.{instr_name}
 use Rattle.sail_eval.proofs.Ending.{ends}
 use Rattle.sail_eval.proofs.run.execute.Goals as goal
 

@@ -1,4 +1,4 @@
-use Rattle.term_tree.proofs.RuleLemmas.{value_fits}
+use Rattle.term_tree.proofs.FitLemmas.{value_fits}
 use Rattle.term_tree.proofs.PairLemmas.{values_are}
 use Rattle.term_tree.proofs.laws.values_of_terms.Goals as goal
 

@@ -1,4 +1,4 @@
-use Rattle.term_tree.specs.Making.{size}
+use Rattle.term_tree.specs.Sizes.{size}
 use Rattle.term_tree.specs.View.{tree}
 use Rattle.term_tree.proofs.parts.+add_parts.Given as goal
 

@@ -1,5 +1,5 @@
 use Rattle.term_tree.specs.View.{tree}
-use Rattle.term_tree.specs.Making.{size}
+use Rattle.term_tree.specs.Sizes.{size}
 use Rattle.term_tree.proofs.trees.+same.Given as goal
 
 abbrev pub decreases-same : goal.decreases-same

@@ -1,6 +1,7 @@
 use Rattle.std.proofs.Common.{◌≡◌, ◌≤◌, inl, List, length, map, ap, sym, ◌∙◌, subst, arith}
 use Rattle.term_arena.specs.Nodes.{Node, Keeps}
-use Rattle.term_arena.specs.Arena.{LIMIT, plain, IsKept, asked_node}
+use Rattle.term_arena.specs.declared.keeping.TheConstants.{LIMIT}
+use Rattle.term_arena.specs.Arena.{plain, IsKept, asked_node}
 use Rattle.term_arena.specs.declared.node.Key.{Key}
 use Rattle.std.proofs.lemmas.List.{length-map}
 use Rattle.std.proofs.lemmas.Option.{slice_get_within}

@@ -1,24 +1,23 @@
-use Rattle.term_tree.specs.declared.term.TermFault.TheVariants as fault
-use Rattle.term_arena.specs.Nodes.{of_term, as_term, meaning_by, meanings_of}
-use Rattle.term_arena.specs.Arena.{asked_node}
+use Rattle.std.proofs.Common.{refl, sym, ap, subst}
+use Rattle.std.specs.Prelude.{Err}
+use Rattle.term_arena.specs.Nodes.{as_term, meaning_by, meanings_of}
+use Rattle.term_arena.specs.Arena.{IsTypedMeaning, asked_node}
+use Rattle.term_arena.specs.Answers.{id_term}
 use Rattle.term_arena.proofs.MeaningLemmas.{term_is}
-use Rattle.term_arena.proofs.BuiltLemmas.{adds_node, full_node, err_of}
+use Rattle.term_arena.proofs.AddedLemmas.{added_ok, added_err}
 use Rattle.term_arena.proofs.terms.Terms.add_term.Goals as goal
 
-pub returns-in-Ok-clause-adds : goal.returns-in-Ok-clause-adds
-returns-in-Ok-clause-adds c =
+pub returns-in-Ok-clause-makes : goal.returns-in-Ok-clause-makes
+returns-in-Ok-clause-makes c =
     let n = asked_node c.args.self.now c.args.node in
-    let m = meaning_by (meanings_of c.args.self.now) n in
-    adds_node c.args.self.now c.add.new.self n (of_term (as_term m)) (term_is m c.requires.typed) c.in-Ok.ensures.added
+    let typed = subst IsTypedMeaning (sym (term_is (meaning_by (meanings_of c.args.self.now) n) c.requires.typed)) c.requires.typed in
+    let h = c.in-Ok.ensures in
+    added_ok c.args.self.now c.add.new.self n typed h.kept h.added id_term as_term _ c.in-Ok.number (λ last. refl) h.made h.means h.low
 
-pub returns-in-Err-clause-adds : goal.returns-in-Err-clause-adds
-returns-in-Err-clause-adds c =
+pub returns-in-Err-clause-makes : goal.returns-in-Err-clause-makes
+returns-in-Err-clause-makes c =
     let n = asked_node c.args.self.now c.args.node in
-    let m = meaning_by (meanings_of c.args.self.now) n in
-    adds_node c.args.self.now c.add.new.self n (of_term (as_term m)) (term_is m c.requires.typed) c.in-Err.ensures.added
-
-pub returns-in-Err-clause-lacks : goal.returns-in-Err-clause-lacks
-returns-in-Err-clause-lacks c q =
-    let n = asked_node c.args.self.now c.args.node in
-    let m = meaning_by (meanings_of c.args.self.now) n in
-    full_node c.args.self.now c.add.new.self n (of_term (as_term m)) c.laws.ensures.arena (term_is m c.requires.typed) c.requires.typed c.in-Err.ensures.err (c.in-Err.ensures.full (err_of c.in-Err.fault fault.TooManyTerms q))
+    let typed = subst IsTypedMeaning (sym (term_is (meaning_by (meanings_of c.args.self.now) n) c.requires.typed)) c.requires.typed in
+    let h = c.in-Err.ensures in
+    added_err c.args.self.now c.add.new.self n typed h.kept h.added id_term as_term c.in-Err.fault c.laws.ensures.arena h.err
+    (λ e. h.full (ap Err e)) (λ e. h.high (ap Err e))

@@ -1,10 +1,13 @@
 use Rattle.std.proofs.Common.{ap, sym, ◌∙◌, subst}
-use Rattle.term_tree.specs.Terms.{ArrayTree, array, IsTypedArray}
-use Rattle.term_tree.specs.Making.{select}
-use Rattle.term_tree.proofs.ReplaceLemmas.{substitute_array_typed}
+use Rattle.term_tree.specs.Terms.{Tree, ArrayTree, array, IsTypedArray}
+use Rattle.term_change.specs.Selecting.{select}
+use Rattle.term_change.proofs.ReplaceLemmas.{substitute_array_typed}
 use Rattle.term_arena.specs.Nodes.{array_at}
 use Rattle.term_arena.specs.Answers.{id_term}
-use Rattle.term_arena.specs.Substituting.{Builds}
+use Rattle.term_arena.specs.Said.{Said, said_of}
+use Rattle.term_arena.proofs.MeaningLemmas.{keeps_trans}
+use Rattle.term_arena.proofs.MakesLemmas.{makes_as}
+use Rattle.term_arena.proofs.StayLemmas.{array_stays}
 use Rattle.term_arena.proofs.KnownLemmas.{array_stands, array_not_replaced}
 use Rattle.term_arena.proofs.terms.Terms.byte_of.Goals as goal
 
@@ -16,18 +19,17 @@ select-requires-clause-array c =
     let s = array_stands o by c.args.known.now c.requires.known.1 f c.in-Some.array.number c.laws.ensures.equal_arrays (c.in-Some.ensures f c.requires.is.1 c.requires.is.2) in
     subst IsTypedArray (sym (ap (array_at o) c.array_for-of.ensures ∙ s)) (substitute_array_typed by (array f) c.requires.known.1.typed tt tt)
 
-pub returns-in-Some-clause-builds : goal.returns-in-Some-clause-builds
-returns-in-Some-clause-builds c by f i k e =
+pub returns-in-Some-clause-makes : goal.returns-in-Some-clause-makes
+returns-in-Some-clause-makes c by f i k e =
     let o = c.args.self.now in
-    let l = c.select.new.self in
-    let s = array_stands o by c.args.known.now k f c.in-Some.array.number c.laws.ensures.equal_arrays (c.in-Some.ensures f i e) in
-    subst (λ (g : ArrayTree). Builds o l (id_term l) (select g (id_term o c.args.at)) c.select.result) (ap (array_at o) c.array_for-of.ensures ∙ s)
-    (record { gives = c.select.ensures.answer; adds = c.select.ensures.adds; full = c.select.ensures.full })
+    let m = c.select.ensures.makes in
+    let s = ap (array_at o) c.array_for-of.ensures ∙ array_stands o by c.args.known.now k f c.in-Some.array.number c.laws.ensures.equal_arrays (c.in-Some.ensures f i e) in
+    let typed = subst IsTypedArray (sym s) (substitute_array_typed by (array f) k.typed tt tt) in
+    makes_as m
+    (λ last h.
+    ap (λ (g : ArrayTree). let q : Said ⊥ Tree = said_of (select g (id_term last c.args.at)) in q) (array_stays o last (keeps_trans o _ last m.kept h) c.array_for-of.result typed ∙ s))
 
-pub returns-in-None-clause-builds : goal.returns-in-None-clause-builds
-returns-in-None-clause-builds c by f i k e =
-    let o = c.args.self.now in
-    let l = c.plain_byte.new.self in
-    let kept = array_not_replaced o by c.args.known.now k f (λ n r q s. c.in-None.ensures f i e n q) in
-    subst (λ (g : ArrayTree). Builds o l (id_term l) (select g (id_term o c.args.at)) c.plain_byte.result) (sym kept)
-    (c.plain_byte.ensures.builds f i e)
+pub returns-in-None-clause-makes : goal.returns-in-None-clause-makes
+returns-in-None-clause-makes c by f i k e =
+    let kept = array_not_replaced c.args.self.now by c.args.known.now k f (λ n r q s. c.in-None.ensures f i e n q) in
+    makes_as (c.plain_byte.ensures.makes f i e) (λ last h. ap (λ (g : ArrayTree). let q : Said ⊥ Tree = said_of (select g (id_term last c.args.at)) in q) (sym kept))

@@ -1,0 +1,4 @@
+pub mod Accepting
+pub mod FirstPath
+pub mod JudgeLemmas
+pub mod Statuses

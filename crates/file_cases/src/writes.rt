@@ -1,0 +1,32 @@
+//! Writes of a case, in turn: `all/TEXT` writes a whole text, `one/TEXT` one piece.
+
+use crate::parsing::content;
+use files_core::{OutFault, Sink, write_all};
+use lex_core::NoMemory;
+use std::alloc::Global;
+
+/// What one write comes to.
+fn write<S: Sink>(alloc: Global, sink: &mut S, asked: &str) -> Result<String, NoMemory> {
+    let (what, text) = asked.split_once('/').unwrap_or((asked, ""));
+    let text = content(alloc, text)?;
+    if what == "one" {
+        let answer = sink.write(&text);
+        return Ok(format!(in alloc; "{answer:?}")?);
+    }
+    match write_all(sink, &text) {
+        Ok(()) => Ok(String::from_str(alloc, "Ok")?),
+        Err(OutFault::NoMemory) => Err(NoMemory),
+        Err(fault) => Ok(format!(in alloc; "{fault:?}")?),
+    }
+}
+
+/// What the writes come to, in turn.
+pub fn writes<S: Sink>(alloc: Global, sink: &mut S, asked: &str) -> Result<String, NoMemory> {
+    let mut told = String::new(alloc);
+    for word in asked.split_whitespace() {
+        let one = write(alloc, sink, word)?;
+        told.push_str(one.as_str())?;
+        told.push_str(" ")?;
+    }
+    Ok(told)
+}

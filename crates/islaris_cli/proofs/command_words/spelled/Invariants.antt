@@ -1,7 +1,0 @@
-use Rattle.std.proofs.Common.{◌≡◌, ◌++◌, map, drop}
-use Rattle.std.specs.String.{string_bytes}
-use Rattle.islaris_cli.specs.Words.{marked}
-use Rattle.islaris_cli.proofs.command_words.spelled.Given as goal
-
-abbrev pub invariant-loop-word : goal.invariant-loop-word
-invariant-loop-word l = map (λ s. s.now) l.all.items ++ map string_bytes (drop l.word-index l.rest) ≡ marked (map string_bytes l.words)

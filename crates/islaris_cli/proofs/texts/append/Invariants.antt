@@ -1,7 +1,0 @@
-use Rattle.std.proofs.Common.{◌≡◌, ◌++◌, drop}
-use Rattle.std.specs.List.{flat_map}
-use Rattle.islaris_cli.proofs.texts.append.Given as goal
-
-abbrev pub invariant-loop-piece : goal.invariant-loop-piece
-invariant-loop-piece l =
-    l.text.items ++ flat_map (λ p. p.now) (drop l.piece-index l.pieces) ≡ l.fn.text.items ++ flat_map (λ p. p.now) l.pieces

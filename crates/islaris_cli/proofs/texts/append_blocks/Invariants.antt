@@ -1,7 +1,0 @@
-use Rattle.std.proofs.Common.{◌≡◌, ◌++◌, drop}
-use Rattle.std.specs.List.{flat_map}
-use Rattle.islaris_cli.specs.Texts.{block_line}
-use Rattle.islaris_cli.proofs.texts.append_blocks.Given as goal
-
-abbrev pub invariant-loop-block : goal.invariant-loop-block
-invariant-loop-block l = l.text.items ++ flat_map block_line (drop l.block-index l.blocks) ≡ l.fn.text.items ++ flat_map block_line l.blocks

@@ -1,7 +1,0 @@
-//! Texts and whole checks, worked out by hand.
-
-mod checks;
-mod images;
-mod printed;
-mod proofs;
-mod sails;

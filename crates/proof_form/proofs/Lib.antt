@@ -1,0 +1,4 @@
+pub mod ProofFormItems
+pub mod ProofFormLemmas
+pub mod ProofFormRead
+pub mod ProofFormSpelled

@@ -1,0 +1,4 @@
+pub mod ProofForm
+pub mod ProofFormReaders
+pub mod ProofFormSpelling
+pub mod ProofFormWords

@@ -1,0 +1,115 @@
+//! Words: what a token is to the grammar, and where it begins.
+
+ghost use Rattle.std.specs.Prelude.{◌≡◌, IfOk};
+ghost use Rattle.lex_core.specs.Forms.{IsTokenOf, bytes_of};
+ghost use Rattle.lex_core.specs.Values.{inside_of, literal_of, number_of};
+ghost use Rattle.sail_grammar.specs.Words as spec;
+ghost use Rattle.sail_grammar.specs.Words.{no_sign, sign_of, sign_or, word_of};
+
+use crate::keyword::{Keyword, keyword_of};
+use crate::mark::{Mark, mark_of, operator_of};
+use bv_bits::Bits;
+use lex_core::{Kind, Literal, Name, NoMemory, Token};
+use sail_syntax::Infix;
+use std::alloc::Global;
+
+/// What a token is to the grammar.
+#[derive(Debug, Drop)]
+pub enum Sign {
+    /// A quoted word.
+    Keyword(Keyword),
+    /// Any other name.
+    Name(Name),
+    /// A decimal number.
+    Number(u32),
+    /// A hex or binary literal.
+    Literal(Bits),
+    /// A text, without its quotes.
+    Text(Name),
+    /// An operator between operands.
+    Operator(Infix),
+    /// Any other mark.
+    Mark(Mark),
+}
+
+/// A sign, and where its token begins, in bytes of the text.
+#[derive(Debug, Drop)]
+pub struct Word {
+    pub sign: Sign,
+    pub at: usize,
+}
+
+/// The sign of a name: a quoted word or another name.
+fn of_name(alloc: Global, name: &[u8]) -> Result<Sign, NoMemory>
+    ensures { IfOk result (λ s. s ≡ sign_of Kind.Name name.now) }
+{
+    match keyword_of(name) {
+        Some(keyword) => Ok(Sign::Keyword(keyword)),
+        None => Ok(Sign::Name(Name::of(alloc, name)?)),
+    }
+}
+
+/// The sign of a mark.
+fn of_mark(text: &[u8]) -> Sign
+    ensures { result ≡ spec.mark_of text.now }
+{
+    match operator_of(text) {
+        Some(operator) => Sign::Operator(operator),
+        None => Sign::Mark(mark_of(text).unwrap_or(Mark::Other)),
+    }
+}
+
+/// The sign of a number.
+fn of_number(number: Option<u32>) -> Sign
+    ensures { result ≡ sign_or Sign.Number no_sign number }
+{
+    match number {
+        Some(number) => Sign::Number(number),
+        None => Sign::Mark(Mark::Other),
+    }
+}
+
+/// The sign of a literal.
+fn of_literal(literal: Option<Literal>) -> Sign
+    ensures { result ≡ sign_or (λ b. Sign.Literal (spec.as_bits b)) no_sign literal }
+{
+    match literal {
+        Some(literal) => Sign::Literal(Bits {
+            width: literal.width,
+            value: literal.value,
+        }),
+        None => Sign::Mark(Mark::Other),
+    }
+}
+
+/// The sign of a text in quotes.
+#[tactic(auto, unfolding(lex_core::specs::Values::inside_of))]
+fn of_text(alloc: Global, text: &[u8], token: &Token) -> Result<Sign, NoMemory>
+    requires { IsTokenOf text.now token.now }
+    ensures { IfOk result (λ s. s ≡ sign_or Sign.Text no_sign (inside_of token.now.kind (bytes_of text.now token.now))) }
+{
+    match token.inside(text) {
+        Some(inside) => Ok(Sign::Text(Name::of(alloc, inside)?)),
+        None => Ok(Sign::Mark(Mark::Other)),
+    }
+}
+
+impl Word {
+    /// The word that a token of the text is.
+    pub fn of(alloc: Global, text: &[u8], token: &Token) -> Result<Word, NoMemory>
+        requires { IsTokenOf text.now token.now }
+        ensures { IfOk result (λ w. w ≡ word_of text.now token.now) }
+    {
+        let sign = match token.kind {
+            Kind::Name => of_name(alloc, token.bytes(text))?,
+            Kind::Number => of_number(token.number(text)),
+            Kind::Hex | Kind::Binary => of_literal(token.literal(text)),
+            Kind::Text => of_text(alloc, text, token)?,
+            Kind::Mark => of_mark(token.bytes(text)),
+        };
+        Ok(Word {
+            sign,
+            at: token.from,
+        })
+    }
+}

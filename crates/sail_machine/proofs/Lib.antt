@@ -1,0 +1,5 @@
+mod Steps
+mod Words
+mod Complete
+mod Programs
+mod Stops

@@ -1,0 +1,31 @@
+-- Digits that are written one by one.
+use Rattle.std.proofs.Common.{◌≡◌, ℕ, zero, suc, ◌-◌, ◌*◌, ◌%◌, ◌/◌, ◌^◌, ◌≤◌, ◌<◌, List, [], ◌∷◌, ◌++◌, append_assoc, ap, ◌∙◌, arith}
+use Rattle.std.proofs.Math.Nat.{pow-le-pow_right}
+use Rattle.term_print.specs.Printing.{digit, last_digits}
+
+-- two to a power of at most four
+pub small_power : (each : ℕ) → each ≤ 4 → (1 ≤ 2 ^ each) × (2 ^ each ≤ 16) × (1 * 2 ^ each % 340282366920938463463374607431768211456 ≡ 2 ^ each)
+small_power each h =
+    let two : 0 < 2 = omega arith in
+    let none : 0 ≤ each = omega arith in
+    let low : 2 ^ 0 ≤ 2 ^ each = pow-le-pow_right two none in
+    let high : 2 ^ each ≤ 2 ^ 4 = pow-le-pow_right two h in
+    (low, high, omega arith)
+
+-- a digit is below 16
+pub digit_small : (each x : ℕ) → each ≤ 4 → x % (1 * 2 ^ each % 340282366920938463463374607431768211456) < 16
+digit_small each x h =
+    let p = small_power each h in
+    let below : x % 2 ^ each < 2 ^ each = omega arith in
+    rw p.2 (omega (arith, below, p.1))
+
+-- one digit more
+pub digit_written : (each left x d : ℕ) (out new all : List ℕ) → 0 < left → each ≤ 4
+    → d ≡ digit (x / 2 ^ (each * (left - 1)) % (1 * 2 ^ each % 340282366920938463463374607431768211456))
+    → new ≡ out ++ d ∷ [] → out ++ last_digits each left x ≡ all → new ++ last_digits each (left - 1) x ≡ all
+digit_written each zero x d out new all some few e written so_far = absurd (omega arith)
+digit_written each (suc n) x d out new all some few e written so_far =
+    let back : suc n - 1 ≡ n = omega arith in
+    let p = small_power each few in
+    let same : d ≡ digit (x / 2 ^ (each * n) % 2 ^ each) = e ∙ ap (λ k. digit (x / 2 ^ (each * k) % (1 * 2 ^ each % 340282366920938463463374607431768211456))) back ∙ ap (λ m. digit (x / 2 ^ (each * n) % m)) p.2 in
+    ap (λ k. new ++ last_digits each k x) back ∙ ap (λ l. l ++ last_digits each n x) (written ∙ ap (λ b. out ++ b ∷ []) same) ∙ append_assoc out _ _ ∙ so_far

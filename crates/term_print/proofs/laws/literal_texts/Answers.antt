@@ -1,0 +1,6 @@
+use Rattle.term_print.proofs.LiteralLemmas.{literal_stands}
+use Rattle.term_print.proofs.TokenTextLemmas.{literal_cut}
+use Rattle.term_print.proofs.laws.literal_texts.Goals as goal
+
+pub returns : goal.returns
+returns c = record { stands = literal_stands; anywhere = literal_cut }

@@ -1,0 +1,5 @@
+pub mod Cutting
+pub mod PrintedLaws
+pub mod Printing
+pub mod TermWords
+pub mod Words

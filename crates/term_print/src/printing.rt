@@ -1,0 +1,261 @@
+//! Terms as text.
+
+ghost use Rattle.std.specs.Prelude.{◌≡◌, ◌+◌, ◌*◌, ◌/◌, ◌%◌, ◌^◌, ◌≤◌, ◌<◌, ◌++◌, [], ◌∷◌, false, IfOk, OnOk, codes, string_bytes};
+ghost use Rattle.std.specs.Str.{IsUtf8};
+ghost use Rattle.std.specs.Str.Lossy.{utf8_lossy};
+ghost use Rattle.std.specs.Fmt as fmt;
+ghost use Rattle.bv_bits.specs.Bits.{IsBits};
+ghost use Rattle.term_tree.specs.Terms.{IsTyped, IsTerm, IsTypedArray, IsArrayTerm};
+ghost use Rattle.term_tree.specs.View.{tree, array_tree};
+ghost use Rattle.term_print.specs.Printing as spec;
+ghost use Rattle.term_tree.specs.Divisions.{is_division, HasNoDivision, ArrayHasNoDivision};
+ghost use Rattle.term_print.specs.Printing.{term_text, array_text, literal_text, last_digits};
+
+use bv_bits::{Bits, Op};
+use lex_core::NoMemory;
+use std::alloc::Global;
+use term_tree::{ArrayTerm, Term};
+
+/// A digit in lower case.
+fn digit(value: u8) -> u8
+    requires { value < 16 }
+    ensures { result ≡ spec.digit value }
+{
+    if value < 10 {
+        b'0' + value
+    } else {
+        b'a' - 10 + value
+    }
+}
+
+/// Appends the last digits of a number, that of highest weight first, at so many bits a digit.
+fn put_digits(out: &mut Vec<u8>, each: u32, count: u32, value: u128) -> Result<(), NoMemory>
+    requires some { 1 ≤ each }
+    requires few { each ≤ 4 }
+    requires fits { each * count ≤ 128 }
+    ensures { OnOk result (out.new.items ≡ out.old.items ++ last_digits each count value) }
+{
+    let mut left = count;
+    while left > 0 {
+        left -= 1;
+        let weighed = (value >> (each * left)) % (1 << each);
+        out.push(digit(weighed as u8))?;
+    }
+    Ok(())
+}
+
+/// Appends a literal.
+#[tactic(auto, unfolding(crate::specs::Printing::literal_text))]
+fn put_literal(out: &mut Vec<u8>, bits: Bits) -> Result<(), NoMemory>
+    requires { IsBits bits }
+    ensures { OnOk result (out.new.items ≡ out.old.items ++ literal_text bits) }
+{
+    if bits.width.is_multiple_of(4) {
+        out.extend_from_slice(b"0x")?;
+        put_digits(out, 4, bits.width / 4, bits.value)
+    } else {
+        out.extend_from_slice(b"0b")?;
+        put_digits(out, 1, bits.width, bits.value)
+    }
+}
+
+/// The word of an operator that is no division.
+fn op_word(op: Op) -> &'static [u8]
+    requires { is_division op ≡ false }
+    ensures { result.now ≡ spec.op_word op }
+{
+    match op {
+        Op::Not => b"not",
+        Op::Neg => b"neg",
+        Op::And => b"and",
+        Op::Or => b"or",
+        Op::Xor => b"xor",
+        Op::Imp => b"imp",
+        Op::Add => b"add",
+        Op::Sub => b"sub",
+        Op::Mul => b"mul",
+        Op::UDiv | Op::URem | Op::SDiv | Op::SRem => unreachable!(),
+        Op::Shl => b"shl",
+        Op::LShr => b"lshr",
+        Op::AShr => b"ashr",
+        Op::Eq => b"eq",
+        Op::Ne => b"ne",
+        Op::ULt => b"ult",
+        Op::ULe => b"ule",
+        Op::UGt => b"ugt",
+        Op::UGe => b"uge",
+        Op::SLt => b"slt",
+        Op::SLe => b"sle",
+        Op::SGt => b"sgt",
+        Op::SGe => b"sge",
+        Op::Concat => b"concat",
+        Op::Extract { hi: _, lo: _ } => b"extract",
+        Op::ZExt { to: _ } => b"zext",
+        Op::SExt { to: _ } => b"sext",
+        Op::Ite => b"ite",
+    }
+}
+
+/// Appends a number in decimal digits, with a space before it.
+fn put_number(alloc: Global, out: &mut Vec<u8>, number: u32) -> Result<(), NoMemory>
+    ensures { OnOk result (out.new.items ≡ out.old.items ++ 32 ∷ fmt.decimal number) }
+{
+    let text = format!(in alloc; "{number}")?;
+    out.push(b' ')?;
+    out.extend_from_slice(&text.into_bytes())?;
+    Ok(())
+}
+
+/// Appends an opening bracket, an operator that is no division, and its numbers.
+fn put_operator(alloc: Global, out: &mut Vec<u8>, op: Op) -> Result<(), NoMemory>
+    requires { is_division op ≡ false }
+    ensures { OnOk result (out.new.items ≡ out.old.items ++ spec.op_head op) }
+{
+    out.push(b'(')?;
+    out.extend_from_slice(op_word(op))?;
+    match op {
+        Op::Extract { hi, lo } => {
+            put_number(alloc, out, hi)?;
+            put_number(alloc, out, lo)
+        }
+        Op::ZExt { to } => put_number(alloc, out, to),
+        Op::SExt { to } => put_number(alloc, out, to),
+        _ => Ok(()),
+    }
+}
+
+/// Appends a space and a term.
+#[cycle(put)]
+fn put_part(alloc: Global, out: &mut Vec<u8>, term: &Term) -> Result<(), NoMemory>
+    requires typed { IsTyped (tree term.now) }
+    requires no_division { HasNoDivision (tree term.now) }
+    ensures { OnOk result (out.new.items ≡ out.old.items ++ 32 ∷ term_text (tree term.now)) }
+{
+    out.push(b' ')?;
+    put_term(alloc, out, term)
+}
+
+/// Appends a term.
+#[cycle(put)]
+fn put_term(alloc: Global, out: &mut Vec<u8>, term: &Term) -> Result<(), NoMemory>
+    requires typed { IsTyped (tree term.now) }
+    requires no_division { HasNoDivision (tree term.now) }
+    ensures { OnOk result (out.new.items ≡ out.old.items ++ term_text (tree term.now)) }
+{
+    match term {
+        Term::Lit(bits) => put_literal(out, *bits),
+        Term::Var { name, width: _ } => {
+            out.extend_from_slice(name.bytes())?;
+            Ok(())
+        }
+        Term::App { op, args } => {
+            match args.as_slice() {
+                [a] => {
+                    put_operator(alloc, out, *op)?;
+                    put_part(alloc, out, a)?;
+                    out.push(b')')?;
+                    Ok(())
+                }
+                [a, b] => {
+                    put_operator(alloc, out, *op)?;
+                    put_part(alloc, out, a)?;
+                    put_part(alloc, out, b)?;
+                    out.push(b')')?;
+                    Ok(())
+                }
+                [a, b, c] => {
+                    put_operator(alloc, out, *op)?;
+                    put_part(alloc, out, a)?;
+                    put_part(alloc, out, b)?;
+                    put_part(alloc, out, c)?;
+                    out.push(b')')?;
+                    Ok(())
+                }
+                _ => unreachable!(),
+            }
+        }
+        Term::Sel { of, at } => {
+            out.extend_from_slice(b"(sel ")?;
+            out.extend_from_slice(of.bytes())?;
+            put_part(alloc, out, at.get())?;
+            out.push(b')')?;
+            Ok(())
+        }
+    }
+}
+
+/// Appends a space and an array term.
+#[cycle(put_arrays)]
+fn put_array_part(alloc: Global, out: &mut Vec<u8>, array: &ArrayTerm) -> Result<(), NoMemory>
+    requires typed { IsTypedArray (array_tree array.now) }
+    requires no_division { ArrayHasNoDivision (array_tree array.now) }
+    ensures { OnOk result (out.new.items ≡ out.old.items ++ 32 ∷ array_text (array_tree array.now)) }
+{
+    out.push(b' ')?;
+    put_array(alloc, out, array)
+}
+
+/// Appends an array term.
+#[cycle(put_arrays)]
+fn put_array(alloc: Global, out: &mut Vec<u8>, array: &ArrayTerm) -> Result<(), NoMemory>
+    requires typed { IsTypedArray (array_tree array.now) }
+    requires no_division { ArrayHasNoDivision (array_tree array.now) }
+    ensures { OnOk result (out.new.items ≡ out.old.items ++ array_text (array_tree array.now)) }
+{
+    match array {
+        ArrayTerm::Var(name) => {
+            out.extend_from_slice(name.bytes())?;
+            Ok(())
+        }
+        ArrayTerm::Upd { of, at, by } => {
+            out.extend_from_slice(b"(upd")?;
+            put_array_part(alloc, out, of.get())?;
+            put_part(alloc, out, at.get())?;
+            put_part(alloc, out, by.get())?;
+            out.push(b')')?;
+            Ok(())
+        }
+        ArrayTerm::Splice { of, below, at } => {
+            out.extend_from_slice(b"(splice")?;
+            put_array_part(alloc, out, of.get())?;
+            put_array_part(alloc, out, below.get())?;
+            put_part(alloc, out, at.get())?;
+            out.push(b')')?;
+            Ok(())
+        }
+    }
+}
+
+/// The text of a term: a literal as `0x` and hex digits in lower case where its width is a multiple of 4, else as `0b`,
+/// always with all digits; a variable as its name; an application as `(op arg ..)`, where an operator's numbers stand
+/// before its argument; a byte of an array variable as `(sel F t)`. One space stands between parts.
+///
+/// The text is the same bytes where the names are UTF-8, and has U+FFFD in place of what isn't. The time is in proportion
+/// to the text.
+pub fn print_term(alloc: Global, term: &Term) -> Result<String, NoMemory>
+    requires term { IsTerm (tree term.now) }
+    requires no_division { HasNoDivision (tree term.now) }
+    ensures exact { IfOk result (λ s. IsUtf8 (term_text (tree term.now)) → string_bytes s ≡ term_text (tree term.now)) }
+    ensures any_names { IfOk result (λ s. string_bytes s ≡ utf8_lossy (term_text (tree term.now))) }
+{
+    let mut out = Vec::new(alloc);
+    put_term(alloc, &mut out, term)?;
+    Ok(String::from_utf8_lossy(alloc, out.as_slice())?)
+}
+
+/// The text of an array term: an array variable as its name, `(upd f i b)` for `f` but for the byte `b` at the index `i`,
+/// and `(splice f g i)` for the array that is `g` below the index `i` and `f` from there on. One space stands between
+/// parts, and terms print as by `print_term`.
+///
+/// The text is the same bytes where the names are UTF-8, and has U+FFFD in place of what isn't. The time is in proportion
+/// to the text.
+pub fn print_array(alloc: Global, array: &ArrayTerm) -> Result<String, NoMemory>
+    requires term { IsArrayTerm (array_tree array.now) }
+    requires no_division { ArrayHasNoDivision (array_tree array.now) }
+    ensures exact { IfOk result (λ s. IsUtf8 (array_text (array_tree array.now)) → string_bytes s ≡ array_text (array_tree array.now)) }
+    ensures any_names { IfOk result (λ s. string_bytes s ≡ utf8_lossy (array_text (array_tree array.now))) }
+{
+    let mut out = Vec::new(alloc);
+    put_array(alloc, &mut out, array)?;
+    Ok(String::from_utf8_lossy(alloc, out.as_slice())?)
+}

@@ -1,5 +1,0 @@
-use Rattle.term_tree.proofs.ReadingLemmas.{array_popped}
-use Rattle.term_tree.proofs.array_reading.pop_array.Goals as goal
-
-pub returns : goal.returns
-returns c = array_popped _ _ _ c.pop.ensures

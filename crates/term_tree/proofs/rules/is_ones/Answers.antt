@@ -1,6 +1,0 @@
-use Rattle.term_tree.proofs.CodeLemmas.{ones_literal}
-use Rattle.term_tree.proofs.rules.is_ones.Goals as goal
-
--- src/rules.rt:98:1
-pub returns-in-Lit : goal.returns-in-Lit
-returns-in-Lit g c = record { value = ones_literal _ _ c.in-Lit.ensures.shape c.requires.typed }

@@ -1,5 +1,0 @@
-use Rattle.term_tree.proofs.ReadingLemmas.{popped}
-use Rattle.term_tree.proofs.term_reading.pop.Goals as goal
-
-pub returns : goal.returns
-returns c = popped _ _ _ c.pop.ensures

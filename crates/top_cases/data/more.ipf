@@ -1,0 +1,7 @@
+islaris_proof 1
+spec inc {
+  code 0x80000000 0x80004004;
+  exit out at 0x0000000080004004 { reg x10 = 0x0000000000001042; } steps { }
+  block entry at 0x80000000 { reg x10 = 0x0000000000000041; }
+  steps { exit out () (); }
+}

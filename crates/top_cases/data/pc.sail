@@ -1,0 +1,1 @@
+register PC : bits(64)
