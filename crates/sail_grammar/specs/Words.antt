@@ -115,10 +115,10 @@ sign_of kind.Binary z = sign_or (λ b. sign.Literal (as_bits b)) no_sign (litera
 sign_of kind.Text z = sign_or sign.Text no_sign (inside_of kind.Text z)
 sign_of kind.Mark z = mark_of z
 
--- the word that a token of a text is
-abbrev pub word_of : Text → Token → Word
-word_of z t = record { sign = sign_of t.kind (bytes_of z t); at = t.from }
+-- the word of a token of a kind, by its bytes and its place
+abbrev pub word_of : Kind → Text → ℕ → Word
+word_of k z at = record { sign = sign_of k z; at = at }
 
 -- the words that the tokens of a text are
 abbrev pub words_of : Text → List Token → Words
-words_of z ts = map (word_of z) ts
+words_of z ts = map (λ t. word_of t.kind (bytes_of z t) t.from) ts

@@ -1,7 +1,7 @@
 //! Words: what a token is to the grammar, and where it begins.
 
-ghost use Rattle.std.specs.Prelude.{◌≡◌, IfOk};
-ghost use Rattle.lex_core.specs.Forms.{IsTokenOf, bytes_of};
+ghost use Rattle.std.specs.Prelude.{◌≡◌, true, IfOk};
+ghost use Rattle.lex_core.specs.Forms.{has_form};
 ghost use Rattle.lex_core.specs.Values.{inside_of, literal_of, number_of};
 ghost use Rattle.sail_grammar.specs.Words as spec;
 ghost use Rattle.sail_grammar.specs.Words.{no_sign, sign_of, sign_or, word_of};
@@ -9,7 +9,7 @@ ghost use Rattle.sail_grammar.specs.Words.{no_sign, sign_of, sign_or, word_of};
 use crate::keyword::{Keyword, keyword_of};
 use crate::mark::{Mark, mark_of, operator_of};
 use bv_bits::Bits;
-use lex_core::{Kind, Literal, Name, NoMemory, Token};
+use lex_core::{Kind, Lexeme, Literal, Name, NoMemory};
 use sail_syntax::Infix;
 use std::alloc::Global;
 
@@ -84,32 +84,32 @@ fn of_literal(literal: Option<Literal>) -> Sign
 
 /// The sign of a text in quotes.
 #[tactic(auto, unfolding(lex_core::specs::Values::inside_of))]
-fn of_text(alloc: Global, text: &[u8], token: &Token) -> Result<Sign, NoMemory>
-    requires { IsTokenOf text.now token.now }
-    ensures { IfOk result (λ s. s ≡ sign_or Sign.Text no_sign (inside_of token.now.kind (bytes_of text.now token.now))) }
+fn of_text(alloc: Global, lexeme: Lexeme<'_>) -> Result<Sign, NoMemory>
+    requires { has_form lexeme.kind lexeme.text.now ≡ true }
+    ensures { IfOk result (λ s. s ≡ sign_or Sign.Text no_sign (inside_of lexeme.kind lexeme.text.now)) }
 {
-    match token.inside(text) {
+    match lexeme.inside() {
         Some(inside) => Ok(Sign::Text(Name::of(alloc, inside)?)),
         None => Ok(Sign::Mark(Mark::Other)),
     }
 }
 
 impl Word {
-    /// The word that a token of the text is.
-    pub fn of(alloc: Global, text: &[u8], token: &Token) -> Result<Word, NoMemory>
-        requires { IsTokenOf text.now token.now }
-        ensures { IfOk result (λ w. w ≡ word_of text.now token.now) }
+    /// The word that a token is.
+    pub fn of(alloc: Global, lexeme: Lexeme<'_>) -> Result<Word, NoMemory>
+        requires { has_form lexeme.kind lexeme.text.now ≡ true }
+        ensures { IfOk result (λ w. w ≡ word_of lexeme.kind lexeme.text.now lexeme.at) }
     {
-        let sign = match token.kind {
-            Kind::Name => of_name(alloc, token.bytes(text))?,
-            Kind::Number => of_number(token.number(text)),
-            Kind::Hex | Kind::Binary => of_literal(token.literal(text)),
-            Kind::Text => of_text(alloc, text, token)?,
-            Kind::Mark => of_mark(token.bytes(text)),
+        let sign = match lexeme.kind {
+            Kind::Name => of_name(alloc, lexeme.text)?,
+            Kind::Number => of_number(lexeme.number()),
+            Kind::Hex | Kind::Binary => of_literal(lexeme.literal()),
+            Kind::Text => of_text(alloc, lexeme)?,
+            Kind::Mark => of_mark(lexeme.text),
         };
         Ok(Word {
             sign,
-            at: token.from,
+            at: lexeme.at,
         })
     }
 }
