@@ -86,7 +86,7 @@ fn of_literal(literal: Option<Literal>) -> Sign
 #[tactic(auto, unfolding(lex_core::specs::Values::inside_of))]
 fn of_text(alloc: Global, lexeme: Lexeme<'_>) -> Result<Sign, NoMemory>
     requires { has_form lexeme.kind lexeme.text.now ≡ true }
-    ensures { IfOk result (λ s. s ≡ sign_or Sign.Text no_sign (inside_of lexeme.kind lexeme.text.now)) }
+    ensures { IfOk result (λ s. s ≡ sign_or Sign.Text no_sign (inside_of lexeme.entry.kind lexeme.entry.text.now)) }
 {
     match lexeme.inside() {
         Some(inside) => Ok(Sign::Text(Name::of(alloc, inside)?)),
@@ -98,7 +98,7 @@ impl Word {
     /// The word that a token is.
     pub fn of(alloc: Global, lexeme: Lexeme<'_>) -> Result<Word, NoMemory>
         requires { has_form lexeme.kind lexeme.text.now ≡ true }
-        ensures { IfOk result (λ w. w ≡ word_of lexeme.kind lexeme.text.now lexeme.at) }
+        ensures { IfOk result (λ w. w ≡ word_of lexeme.entry.kind lexeme.entry.text.now lexeme.entry.at) }
     {
         let sign = match lexeme.kind {
             Kind::Name => of_name(alloc, lexeme.text)?,
