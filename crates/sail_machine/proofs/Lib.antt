@@ -1,5 +1,16 @@
 mod Steps
 mod Words
 mod Complete
-mod Programs
+pub mod Programs
 mod Stops
+mod Rests
+mod Awaiting
+mod SignLemmas
+mod Found
+mod FoundDefinitions
+mod FoundEnds
+mod FoundOperands
+mod FoundForms
+mod FoundLists
+mod FoundWords
+pub mod FoundTexts

@@ -39,7 +39,7 @@ by_kind : (b : Bool) (x : Definition) (all xs ys : List Definition) → length a
 by_kind true x all xs ys h = omega (arith, h)
 by_kind false x all xs ys h = h
 
-filter_parts : (kind : Definition → Bool) (xs ys : List Definition) → length (filter kind (xs ++ ys)) ≡ length (filter kind xs) + length (filter kind ys)
+pub filter_parts : (kind : Definition → Bool) (xs ys : List Definition) → length (filter kind (xs ++ ys)) ≡ length (filter kind xs) + length (filter kind ys)
 filter_parts kind [] ys = omega arith
 filter_parts kind (x ∷ xs) ys = by_kind (kind x) x (filter kind (xs ++ ys)) (filter kind xs) (filter kind ys) (filter_parts kind xs ys)
 

@@ -13,6 +13,11 @@ pub fn spelled_is_read()
     ensures one { (ws : Words) (ds es : List Definition) → IsProgram ws ds → IsProgram ws es → ds ≡ es }
 {}
 
+/// What is read is spelled within the limits: where the machine reads a program from words, the words, all of them, spell it.
+pub fn read_is_spelled()
+    ensures spelled { (end : ℕ) (ws : Words) (ds : List Definition) → read end ws ≡ Ok ds → IsProgram ws ds }
+{}
+
 /// A fault at a word is the fault of each text that begins with the words up to it, whatever stands behind them, and no continuation
 /// of these words is in the grammar.
 pub fn stops()
