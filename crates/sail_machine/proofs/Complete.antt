@@ -76,39 +76,39 @@ module _ (end : ℕ) where
   settle k x (v ∷ r) = go end (ends k x (next_word v)) r
 
   -- behind an operand, where nothing goes on with it
-  run-settles : (k : Frames) (x : Tree) (c p : ℕ) (o : Bool) (r : Words) → IsEnd o r → run end k (have x c p) r ≡ settle k x r
+  pub run-settles : (k : Frames) (x : Tree) (c p : ℕ) (o : Bool) (r : Words) → IsEnd o r → run end k (have x c p) r ≡ settle k x r
   unfolding run
   run-settles k x c p o [] h = refl
   run-settles k x c p o (v ∷ r) h = rw h.operand.no_operator (rw h.operand.no_square refl)
 
-  run-whole : (k : Frames) (x : Tree) (r : Words) → run end k (whole x) r ≡ settle k x r
+  pub run-whole : (k : Frames) (x : Tree) (r : Words) → run end k (whole x) r ≡ settle k x r
   unfolding run
   run-whole k x [] = refl
   run-whole k x (v ∷ r) = refl
 
   -- a name that nothing goes on with
-  run-name : (k : Frames) (x : Text) (p : ℕ) (r : Words) → IsAfter r → run end k (awaits (a.Named x p)) r ≡ run end k (have (node p (name x)) 0 p) r
+  pub run-name : (k : Frames) (x : Text) (p : ℕ) (r : Words) → IsAfter r → run end k (awaits (a.Named x p)) r ≡ run end k (have (node p (name x)) 0 p) r
   unfolding run
   run-name k x p [] h = refl
   run-name k x p (v ∷ r) h = rw h.no_open (rw h.no_equals refl)
 
   -- what ends with an expression
-  settle-chain : (k : Frames) (op : Infix) (xs : List Tree) (p : ℕ) (x : Tree) (r : Words) → settle (f.chained op xs p ∷ k) x r ≡ settle k (node p (chain op (trees (xs ++ x ∷ [])))) r
+  pub settle-chain : (k : Frames) (op : Infix) (xs : List Tree) (p : ℕ) (x : Tree) (r : Words) → settle (f.chained op xs p ∷ k) x r ≡ settle k (node p (chain op (trees (xs ++ x ∷ [])))) r
   unfolding ends
   settle-chain k op xs p x [] = refl
   settle-chain k op xs p x (v ∷ r) = refl
 
-  settle-assign : (k : Frames) (y : Text) (p : ℕ) (x : Tree) (r : Words) → settle (f.assigning y p ∷ k) x r ≡ settle k (node p (assign y x)) r
+  pub settle-assign : (k : Frames) (y : Text) (p : ℕ) (x : Tree) (r : Words) → settle (f.assigning y p ∷ k) x r ≡ settle k (node p (assign y x)) r
   unfolding ends
   settle-assign k y p x [] = refl
   settle-assign k y p x (v ∷ r) = refl
 
-  settle-other : (k : Frames) (t y : Tree) (p : ℕ) (x : Tree) (r : Words) → settle (f.otherwise t y p ∷ k) x r ≡ settle k (node p (choose t y x)) r
+  pub settle-other : (k : Frames) (t y : Tree) (p : ℕ) (x : Tree) (r : Words) → settle (f.otherwise t y p ∷ k) x r ≡ settle k (node p (choose t y x)) r
   unfolding ends
   settle-other k t y p x [] = refl
   settle-other k t y p x (v ∷ r) = refl
 
-  settle-when : (k : Frames) (t : Tree) (p : ℕ) (x : Tree) (r : Words) → IsEnd true r → settle (f.choosing t p ∷ k) x r ≡ settle k (node p (when t x)) r
+  pub settle-when : (k : Frames) (t : Tree) (p : ℕ) (x : Tree) (r : Words) → IsEnd true r → settle (f.choosing t p ∷ k) x r ≡ settle k (node p (when t x)) r
   unfolding ends
   settle-when k t p x [] h = refl
   settle-when k t p x (v ∷ r) h = rw (h.no_else refl) refl

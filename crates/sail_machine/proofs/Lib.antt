@@ -14,3 +14,8 @@ mod FoundForms
 mod FoundLists
 mod FoundWords
 pub mod FoundTexts
+mod Closing
+mod Reached
+mod Kept
+mod Leading
+mod GoesOn

@@ -1,9 +1,10 @@
 //! Laws of the machine, over the definitions alone.
 
-ghost use Rattle.std.specs.Prelude.{◌≡◌, ◌++◌, ℕ, List, Ok, Err};
+ghost use Rattle.std.specs.Prelude.{◌≡◌, ◌++◌, ◌<◌, ℕ, List, Ok, Err};
 ghost use Rattle.sail_grammar.specs.Spelling.{Continues, IsProgram};
 ghost use Rattle.sail_grammar.specs.Words.{Words};
 ghost use Rattle.sail_machine.specs.declared.fault.Fault.{Fault};
+ghost use Rattle.sail_machine.specs.Frames.{Frames, Mode, nest};
 ghost use Rattle.sail_machine.specs.Run.{passed, read};
 ghost use Rattle.sail_syntax.specs.Program.{Definition};
 
@@ -23,4 +24,9 @@ pub fn read_is_spelled()
 pub fn stops()
     ensures fault { (end : ℕ) (ws more : Words) (f : Fault) → passed ws ≡ Err f → read end (ws ++ more) ≡ Err f }
     ensures after { (ws : Words) (f : Fault) → passed ws ≡ Err f → ¬ Continues ws }
+{}
+
+/// Words that the machine passes go on to a program, as long as a level of nesting is left where they end.
+pub fn goes_on()
+    ensures before { (ws : Words) (k : Frames) (m : Mode) → passed ws ≡ Ok (k, m) → nest k < 128 → Continues ws }
 {}
