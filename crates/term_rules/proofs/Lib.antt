@@ -1,16 +1,6 @@
-pub mod AnswerLemmas
 pub mod CodeLemmas
-pub mod DivisionLemmas
-pub mod HighLemmas
-pub mod KeptLemmas
-pub mod MakeLemmas
-pub mod NormalLemmas
 pub mod NumberLemmas
 pub mod RewriteLemmas
 pub mod Rewrites
 pub mod RuleLemmas
-pub mod SizeLemmas
-pub mod StepLemmas
 pub mod TypedLemmas
-pub mod ValueLemmas
-pub mod VariableLemmas

@@ -1,8 +1,0 @@
-pub mod FittingLemmas
-pub mod NormalChangeLemmas
-pub mod PartChangeLemmas
-pub mod ReplaceLemmas
-pub mod ReplaceStepLemmas
-pub mod ReplacedLemmas
-pub mod SelectLemmas
-pub mod SelectingLemmas

@@ -1,9 +1,0 @@
-use Rattle.std.specs.List.{Contains}
-use Rattle.term_change.proofs.PartChangeLemmas.{selected_whole, selected_variables}
-use Rattle.term_change.proofs.laws.parts_of_selected_bytes.Goals as goal
-
-pub returns : goal.returns
-returns c = record {
-  divisions = selected_whole;
-  variables = λ vs. selected_variables (λ x w. Contains vs.bits (x, w)) (λ f. Contains vs.arrays f);
-}

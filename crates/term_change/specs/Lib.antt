@@ -1,6 +1,0 @@
-pub mod Fitting
-pub mod Laws
-pub mod NormalLaws
-pub mod Replaced
-pub mod Replacing
-pub mod Selecting

@@ -1,0 +1,11 @@
+pub mod AnswerLemmas
+pub mod DivisionLemmas
+pub mod HighLemmas
+pub mod KeptLemmas
+pub mod MakeLemmas
+pub mod NormalLemmas
+pub mod SizeLemmas
+pub mod StepLemmas
+pub mod TypedLemmas
+pub mod ValueLemmas
+pub mod VariableLemmas

@@ -1,0 +1,5 @@
+pub mod Answers
+pub mod Laws
+pub mod Making
+pub mod Normal
+pub mod Steps

@@ -1,0 +1,5 @@
+pub mod Fitting
+pub mod Laws
+pub mod NormalLaws
+pub mod Replaced
+pub mod Replacing

@@ -1,0 +1,4 @@
+pub mod SelectLemmas
+pub mod SelectedNormalLemmas
+pub mod SelectedPartLemmas
+pub mod SelectingLemmas
