@@ -16,8 +16,9 @@ use bv_bits::{Bits, Op};
 use lex_core::NoMemory;
 use sqlite_items::Items;
 use std::alloc::Global;
+use term_copy::copy;
 use term_rules::{Right, Trees, one_rule, three_rule, two_rule};
-use term_tree::{HIGHEST, Term, TermFault, copy, height, list_of_one, list_of_two};
+use term_tree::{HIGHEST, Term, TermFault, height, list_of_one, list_of_two};
 
 /// The term that stands for an operator at arguments: the first rewrite rule that fits is applied, and every application on
 /// its right side is made in turn; where none fits, it is the application itself.

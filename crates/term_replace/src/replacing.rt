@@ -15,11 +15,12 @@ ghost use Rattle.term_tree.specs.View.{tree, array_tree};
 use lex_core::{Name, NoMemory};
 use sqlite_items::Boxed;
 use std::alloc::Global;
+use term_copy::{copy, copy_array};
 use term_make::{made_of_one, made_of_three, made_of_two};
 use term_select::{byte_of_variable, select};
 use term_tree::{
-    ArrayForm, ArrayTerm, Form, HIGHEST, Term, TermFault, array_form_of, array_height, copy,
-    copy_array, form_of, height,
+    ArrayForm, ArrayTerm, Form, HIGHEST, Term, TermFault, array_form_of, array_height, form_of,
+    height,
 };
 
 /// The term with each named variable replaced, all at once: each application and each select is made again. Of two
@@ -155,6 +156,7 @@ pub fn substitute_array(
 }
 
 /// What `substitute_array` gives.
+#[cycle(replacing_arrays)]
 fn replaced_in_array(
     alloc: Global,
     array: &ArrayTerm,
@@ -170,19 +172,57 @@ fn replaced_in_array(
 {
     match array_form_of(array) {
         ArrayForm::Var { name } => Ok(array_term_for(alloc, name, arrays)?),
-        ArrayForm::Upd { of, at, by } => {
-            let below = replaced_in_array(alloc, of, bits, arrays)?;
-            let index = replaced(alloc, at, bits, arrays)?;
-            let byte = replaced(alloc, by, bits, arrays)?;
-            updated(alloc, below, index, byte)
-        }
-        ArrayForm::Splice { of, below, at } => {
-            let from = replaced_in_array(alloc, of, bits, arrays)?;
-            let low = replaced_in_array(alloc, below, bits, arrays)?;
-            let index = replaced(alloc, at, bits, arrays)?;
-            joined(alloc, from, low, index)
-        }
+        ArrayForm::Upd { of, at, by } => replaced_in_update(alloc, of, at, by, bits, arrays),
+        ArrayForm::Splice { of, below, at } => replaced_in_splice(
+            alloc, of, below, at, bits, arrays,
+        ),
     }
+}
+
+/// The same for an array term, but for the byte at an index.
+#[cycle(replacing_arrays)]
+fn replaced_in_update(
+    alloc: Global,
+    of: &ArrayTerm,
+    at: &Term,
+    byte: &Term,
+    bits: &[(Name, Term)],
+    arrays: &[(Name, ArrayTerm)],
+) -> Result<ArrayTerm, TermFault>
+    requires typed { IsTypedArray (upd (array_tree of.now) (tree at.now) (tree byte.now)) }
+    requires low { array_height (upd (array_tree of.now) (tree at.now) (tree byte.now)) ≤ HIGHEST }
+    requires by { AreTerms (replacements bits.now arrays.now) }
+    requires fits { FitsArray (replacements bits.now arrays.now) (upd (array_tree of.now) (tree at.now) (tree byte.now)) }
+    ensures answer { Answers array_tree (spec.substitute_array (replacements bits.now arrays.now) (upd (array_tree of.now) (tree at.now) (tree byte.now))) result }
+    ensures array { IfOk result (λ f. IsArrayTerm (array_tree f)) }
+{
+    let below = replaced_in_array(alloc, of, bits, arrays)?;
+    let index = replaced(alloc, at, bits, arrays)?;
+    let value = replaced(alloc, byte, bits, arrays)?;
+    updated(alloc, below, index, value)
+}
+
+/// The same for an array term below an index and another one from it on.
+#[cycle(replacing_arrays)]
+fn replaced_in_splice(
+    alloc: Global,
+    of: &ArrayTerm,
+    below: &ArrayTerm,
+    at: &Term,
+    bits: &[(Name, Term)],
+    arrays: &[(Name, ArrayTerm)],
+) -> Result<ArrayTerm, TermFault>
+    requires typed { IsTypedArray (splice (array_tree of.now) (array_tree below.now) (tree at.now)) }
+    requires low { array_height (splice (array_tree of.now) (array_tree below.now) (tree at.now)) ≤ HIGHEST }
+    requires by { AreTerms (replacements bits.now arrays.now) }
+    requires fits { FitsArray (replacements bits.now arrays.now) (splice (array_tree of.now) (array_tree below.now) (tree at.now)) }
+    ensures answer { Answers array_tree (spec.substitute_array (replacements bits.now arrays.now) (splice (array_tree of.now) (array_tree below.now) (tree at.now))) result }
+    ensures array { IfOk result (λ f. IsArrayTerm (array_tree f)) }
+{
+    let from = replaced_in_array(alloc, of, bits, arrays)?;
+    let low = replaced_in_array(alloc, below, bits, arrays)?;
+    let index = replaced(alloc, at, bits, arrays)?;
+    joined(alloc, from, low, index)
 }
 
 /// What stands for an array variable.
@@ -212,11 +252,7 @@ fn updated(alloc: Global, of: ArrayTerm, at: Term, by: Term) -> Result<ArrayTerm
     ensures array { IfOk result (λ f. IsArrayTerm (array_tree f)) }
 {
     if array_height(&of) < HIGHEST && (height(&at) < HIGHEST && height(&by) < HIGHEST) {
-        Ok(ArrayTerm::Upd {
-            of: Boxed::new(alloc, of)?,
-            at: Boxed::new(alloc, at)?,
-            by: Boxed::new(alloc, by)?,
-        })
+        Ok(update_of(alloc, of, at, by)?)
     } else {
         Err(TermFault::TermTooHigh)
     }
@@ -232,12 +268,35 @@ fn joined(alloc: Global, of: ArrayTerm, below: ArrayTerm, at: Term) -> Result<Ar
     ensures array { IfOk result (λ f. IsArrayTerm (array_tree f)) }
 {
     if array_height(&of) < HIGHEST && (array_height(&below) < HIGHEST && height(&at) < HIGHEST) {
-        Ok(ArrayTerm::Splice {
-            of: Boxed::new(alloc, of)?,
-            below: Boxed::new(alloc, below)?,
-            at: Boxed::new(alloc, at)?,
-        })
+        Ok(splice_of(alloc, of, below, at)?)
     } else {
         Err(TermFault::TermTooHigh)
     }
+}
+
+/// An array term, but for the byte at an index.
+fn update_of(alloc: Global, of: ArrayTerm, at: Term, by: Term) -> Result<ArrayTerm, NoMemory>
+    ensures array { IfOk result (λ f. array_tree f ≡ upd (array_tree of) (tree at) (tree by)) }
+{
+    Ok(ArrayTerm::Upd {
+        of: Boxed::new(alloc, of)?,
+        at: Boxed::new(alloc, at)?,
+        by: Boxed::new(alloc, by)?,
+    })
+}
+
+/// The array term `below` at each index below `at`, and the array term `of` from there on.
+fn splice_of(
+    alloc: Global,
+    of: ArrayTerm,
+    below: ArrayTerm,
+    at: Term,
+) -> Result<ArrayTerm, NoMemory>
+    ensures array { IfOk result (λ f. array_tree f ≡ splice (array_tree of) (array_tree below) (tree at)) }
+{
+    Ok(ArrayTerm::Splice {
+        of: Boxed::new(alloc, of)?,
+        below: Boxed::new(alloc, below)?,
+        at: Boxed::new(alloc, at)?,
+    })
 }

@@ -14,8 +14,9 @@ use bv_bits::Op;
 use lex_core::Name;
 use sqlite_items::Boxed;
 use std::alloc::Global;
+use term_copy::copy;
 use term_make::{made_of_three, made_of_two};
-use term_tree::{ArrayForm, ArrayTerm, HIGHEST, Term, TermFault, array_form_of, copy, height};
+use term_tree::{ArrayForm, ArrayTerm, HIGHEST, Term, TermFault, array_form_of, height};
 
 /// The term for the byte, of 8 bits, of an array term at an index of 64 bits.
 ///

@@ -4,7 +4,6 @@ pub mod FoundLemmas
 pub mod OpLemmas
 pub mod OperatorLemmas
 pub mod PairLemmas
-pub mod PartLemmas
 pub mod SameLemmas
 pub mod ViewLemmas
 pub mod WidthLemmas

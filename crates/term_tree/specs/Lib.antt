@@ -2,7 +2,6 @@ pub mod ArrayForms
 pub mod Divisions
 pub mod Forms
 pub mod Laws
-pub mod Parts
 pub mod Sizes
 pub mod Terms
 pub mod Values

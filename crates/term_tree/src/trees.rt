@@ -1,8 +1,7 @@
-//! Terms as trees: their tops, widths and heights, whether two are the same, and copies.
+//! Terms as trees: their forms, widths and heights, whether two are the same, and lists of a few.
 
-ghost use Rattle.std.specs.Prelude.{◌≡◌, ◌≤◌, [], ◌∷◌, map, All, IfOk};
-ghost use Rattle.bv_bits.specs.Bits.{result_width_of};
-ghost use Rattle.term_tree.specs.Terms.{Tree, IsTyped, IsTypedArray, width_of, height, array_height, same_op, same_tree, applied, HIGHEST};
+ghost use Rattle.std.specs.Prelude.{◌≡◌, ◌≤◌, [], ◌∷◌, IfOk};
+ghost use Rattle.term_tree.specs.Terms.{IsTyped, IsTypedArray, width_of, height, array_height, same_op, same_tree, HIGHEST};
 ghost use Rattle.term_tree.specs.View.{tree, array_tree};
 ghost use Rattle.term_tree.specs.Forms.{IsForm};
 ghost use Rattle.term_tree.specs.ArrayForms.{IsArrayForm};
@@ -10,7 +9,7 @@ ghost use Rattle.term_tree.specs.ArrayForms.{IsArrayForm};
 use crate::term::{ArrayTerm, Term};
 use bv_bits::{Bits, Op};
 use lex_core::{Name, NoMemory};
-use sqlite_items::{Boxed, Items};
+use sqlite_items::Items;
 use std::alloc::Global;
 
 /// How high a term may be.
@@ -21,16 +20,13 @@ pub fn width(term: &Term) -> u32
     requires typed { IsTyped (tree term.now) }
     ensures width { result ≡ width_of (tree term.now) }
 {
-    match term {
-        Term::Lit(b) => b.width,
-        Term::Var { name: _, width } => *width,
-        Term::App { op, args } => match args.as_slice() {
-            [a] => op.row_width(&[width(a)]).unwrap(),
-            [a, b] => op.row_width(&[width(a), width(b)]).unwrap(),
-            [a, b, c] => op.row_width(&[width(a), width(b), width(c)]).unwrap(),
-            _ => unreachable!(),
-        },
-        Term::Sel { of: _, at: _ } => 8,
+    match form_of(term) {
+        Form::Lit(b) => b.width,
+        Form::Var { name: _, width } => width,
+        Form::One { op, a } => op.row_width(&[width(a)]).unwrap(),
+        Form::Two { op, a, b } => op.row_width(&[width(a), width(b)]).unwrap(),
+        Form::Three { op, a, b, c } => op.row_width(&[width(a), width(b), width(c)]).unwrap(),
+        Form::Sel { of: _, at: _ } => 8,
     }
 }
 
@@ -192,16 +188,13 @@ pub fn height(term: &Term) -> u32
     requires low { height (tree term.now) ≤ HIGHEST }
     ensures height { result ≡ height (tree term.now) }
 {
-    match term {
-        Term::Lit(_) => 1,
-        Term::Var { name: _, width: _ } => 1,
-        Term::App { op: _, args } => match args.as_slice() {
-            [a] => 1 + height(a),
-            [a, b] => 1 + height(a).max(height(b)),
-            [a, b, c] => 1 + height(a).max(height(b).max(height(c))),
-            _ => unreachable!(),
-        },
-        Term::Sel { of: _, at } => 1 + height(at.get()),
+    match form_of(term) {
+        Form::Lit(_) => 1,
+        Form::Var { name: _, width: _ } => 1,
+        Form::One { op: _, a } => 1 + height(a),
+        Form::Two { op: _, a, b } => 1 + height(a).max(height(b)),
+        Form::Three { op: _, a, b, c } => 1 + height(a).max(height(b).max(height(c))),
+        Form::Sel { of: _, at } => 1 + height(at),
     }
 }
 
@@ -219,84 +212,23 @@ pub fn array_height(array: &ArrayTerm) -> u32
     }
 }
 
-/// A term of its own that is the same.
-pub fn copy(alloc: Global, term: &Term) -> Result<Term, NoMemory>
-    requires typed { IsTyped (tree term.now) }
-    ensures same { IfOk result (λ t. tree t ≡ tree term.now) }
-{
-    Ok(match term {
-        Term::Lit(b) => Term::Lit(*b),
-        Term::Var { name, width } => Term::Var {
-            name: name.copy(alloc)?,
-            width: *width,
-        },
-        Term::App { op, args } => Term::App {
-            op: *op,
-            args: match args.as_slice() {
-                [a] => list_of_one(alloc, copy(alloc, a)?)?,
-                [a, b] => list_of_two(alloc, copy(alloc, a)?, copy(alloc, b)?)?,
-                [a, b, c] => list_of_three(
-                    alloc,
-                    copy(alloc, a)?,
-                    copy(alloc, b)?,
-                    copy(alloc, c)?,
-                )?,
-                _ => unreachable!(),
-            },
-        },
-        Term::Sel { of, at } => Term::Sel {
-            of: of.copy(alloc)?,
-            at: Boxed::new(alloc, copy(alloc, at.get())?)?,
-        },
-    })
-}
-
-/// An array term of its own that is the same.
-pub fn copy_array(alloc: Global, array: &ArrayTerm) -> Result<ArrayTerm, NoMemory>
-    requires typed { IsTypedArray (array_tree array.now) }
-    ensures same { IfOk result (λ f. array_tree f ≡ array_tree array.now) }
-{
-    match array_form_of(array) {
-        ArrayForm::Var { name } => Ok(ArrayTerm::Var(name.copy(alloc)?)),
-        ArrayForm::Upd { of, at, by } => Ok(ArrayTerm::Upd {
-            of: Boxed::new(alloc, copy_array(alloc, of)?)?,
-            at: Boxed::new(alloc, copy(alloc, at)?)?,
-            by: Boxed::new(alloc, copy(alloc, by)?)?,
-        }),
-        ArrayForm::Splice { of, below, at } => Ok(ArrayTerm::Splice {
-            of: Boxed::new(alloc, copy_array(alloc, of)?)?,
-            below: Boxed::new(alloc, copy_array(alloc, below)?)?,
-            at: Boxed::new(alloc, copy(alloc, at)?)?,
-        }),
-    }
-}
-
 /// One term as a list.
 pub fn list_of_one(alloc: Global, a: Term) -> Result<Items<Term>, NoMemory>
     ensures list { IfOk result (λ xs. xs ≡ a ∷ []) }
 {
-    let mut list = Vec::with_capacity(alloc, 1)?;
-    list.push(a)?;
-    Ok(Items::from_vec(list))
+    Ok(Items::from_vec(vec![in alloc; a]?))
 }
 
 /// Two terms as a list.
 pub fn list_of_two(alloc: Global, a: Term, b: Term) -> Result<Items<Term>, NoMemory>
     ensures list { IfOk result (λ xs. xs ≡ a ∷ b ∷ []) }
 {
-    let mut list = Vec::with_capacity(alloc, 2)?;
-    list.push(a)?;
-    list.push(b)?;
-    Ok(Items::from_vec(list))
+    Ok(Items::from_vec(vec![in alloc; a, b]?))
 }
 
 /// Three terms as a list.
 pub fn list_of_three(alloc: Global, a: Term, b: Term, c: Term) -> Result<Items<Term>, NoMemory>
     ensures list { IfOk result (λ xs. xs ≡ a ∷ b ∷ c ∷ []) }
 {
-    let mut list = Vec::with_capacity(alloc, 3)?;
-    list.push(a)?;
-    list.push(b)?;
-    list.push(c)?;
-    Ok(Items::from_vec(list))
+    Ok(Items::from_vec(vec![in alloc; a, b, c]?))
 }

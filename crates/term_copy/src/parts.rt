@@ -2,13 +2,13 @@
 
 ghost use Rattle.std.specs.Prelude.{◌≡◌, ◌∷◌, [], map, All, IfOk};
 ghost use Rattle.term_tree.specs.Terms.{IsTerm};
-ghost use Rattle.term_tree.specs.Parts.{postorder, is_among, first_ones, subterms_of};
+ghost use Rattle.term_copy.specs.Parts.{postorder, is_among, first_ones, subterms_of};
 ghost use Rattle.term_tree.specs.View.{tree};
 
-use crate::term::Term;
-use crate::trees::{Form, copy, form_of, same};
+use crate::copies::copy;
 use lex_core::NoMemory;
 use std::alloc::Global;
+use term_tree::{Form, Term, form_of, same};
 
 /// The distinct subterms of terms, each behind its own parts, and where it stands first.
 ///

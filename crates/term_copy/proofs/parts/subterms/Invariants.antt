@@ -1,9 +1,9 @@
 use Rattle.std.proofs.Common.{◌≡◌, map, drop}
 use Rattle.std.specs.Prelude.{All}
 use Rattle.term_tree.specs.Terms.{IsTerm}
-use Rattle.term_tree.specs.Parts.{all_parts, first_ones, subterms_of}
+use Rattle.term_copy.specs.Parts.{all_parts, first_ones, subterms_of}
 use Rattle.term_tree.specs.View.{tree}
-use Rattle.term_tree.proofs.parts.subterms.Given as goal
+use Rattle.term_copy.proofs.parts.subterms.Given as goal
 
 abbrev pub invariant-loop-term : goal.invariant-loop-term
 invariant-loop-term l = record {

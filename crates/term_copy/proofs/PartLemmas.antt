@@ -2,7 +2,7 @@
 use Rattle.std.proofs.Common.{◌≡◌, ℕ, suc, ◌+◌, ◌<◌, List, [], ◌∷◌, ◌++◌, length, map, get_or, drop, cond, refl, ap, sym, ◌∙◌, drop-cons, add-one}
 use Rattle.term_tree.specs.declared.term.Term.{Term}
 use Rattle.term_tree.specs.Terms.{Tree}
-use Rattle.term_tree.specs.Parts.{postorder, all_parts, is_among, first_ones}
+use Rattle.term_copy.specs.Parts.{postorder, all_parts, is_among, first_ones}
 use Rattle.term_tree.specs.View.{tree}
 
 -- the new ones of a list and then of another are those of both

@@ -1,8 +1,8 @@
 use Rattle.std.proofs.Common.{map}
-use Rattle.term_tree.specs.Parts.{subterms_of}
+use Rattle.term_copy.specs.Parts.{subterms_of}
 use Rattle.term_tree.specs.View.{tree}
-use Rattle.term_tree.proofs.PartLemmas.{one_more}
-use Rattle.term_tree.proofs.parts.subterms.Goals as goal
+use Rattle.term_copy.proofs.PartLemmas.{one_more}
+use Rattle.term_copy.proofs.parts.subterms.Goals as goal
 
 pub loop-term-preserved : goal.loop-term-preserved
 loop-term-preserved c = record {

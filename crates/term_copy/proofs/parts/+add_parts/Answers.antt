@@ -1,10 +1,10 @@
 use Rattle.std.proofs.Common.{◌≡◌, List, [], ◌∷◌, ◌++◌, map, refl, sym, subst}
 use Rattle.std.specs.Prelude.{IfOk}
 use Rattle.term_tree.specs.Terms.{Tree}
-use Rattle.term_tree.specs.Parts.{postorder}
+use Rattle.term_copy.specs.Parts.{postorder}
 use Rattle.term_tree.specs.View.{tree}
-use Rattle.term_tree.proofs.PartLemmas.{behind_one, behind_two, behind_three}
-use Rattle.term_tree.proofs.parts.+add_parts.Goals as goal
+use Rattle.term_copy.proofs.PartLemmas.{behind_one, behind_two, behind_three}
+use Rattle.term_copy.proofs.parts.+add_parts.Goals as goal
 
 pub returns-in_ok-add_parts-in-One-clause-added : goal.returns-in_ok-add_parts-in-One-clause-added
 returns-in_ok-add_parts-in-One-clause-added t c =
