@@ -5,7 +5,7 @@ use Rattle.std.proofs.lemmas.Bool.{cases_lt}
 use Rattle.std.proofs.lemmas.List.{map-append}
 use Rattle.std.proofs.lemmas.List.Elements.{Contains-append_left, Contains-append_right, Contains-append_cases, Contains-push_cases, Contains-push}
 use Rattle.term_tree.specs.Terms.{Tree, ArrayTree}
-use Rattle.term_rules.specs.Making.{Asked, Made, made_then, asks}
+use Rattle.term_make.specs.Making.{Asked, Made, made_then, asks}
 use Rattle.term_arena.specs.Nodes.{Node, Meaning, of_term, of_array, meaning_by, meanings_of, meaning_at, Keeps}
 use Rattle.term_arena.specs.declared.keeping.TheConstants.{LIMIT}
 use Rattle.term_arena.specs.Arena.{IsArena, IsTypedMeaning}

@@ -1,7 +1,7 @@
 -- Definitions that answer the same with the same terms.
 use Rattle.std.proofs.Common.{◌≡◌, List, ◌++◌, refl, sym, ◌∙◌, subst}
 use Rattle.std.specs.Prelude.{Result, Ok, Err}
-use Rattle.term_rules.specs.Making.{Made, made_then}
+use Rattle.term_make.specs.Making.{Made, made_then}
 use Rattle.term_arena.specs.Nodes.{Node, Meaning, Keeps}
 use Rattle.term_arena.specs.Built.{built}
 use Rattle.term_arena.specs.Said.{Answer, Answers, Refuses, Said, answer_then, said_then, said_of}

@@ -3,7 +3,7 @@ use Rattle.std.proofs.Common.{◌≡◌, ℕ, Bool, true, false, cond, List, Opt
 use Rattle.std.specs.Prelude.{nat_eq, bytes_eq, slice_index_or, unwrap_or}
 use Rattle.std.proofs.lemmas.Slice.Eq.{bytes_eq-Decides}
 use Rattle.term_tree.specs.Terms.{Text, Tree, var, ArrayTree, array, IsTyped, IsTypedArray, width_of}
-use Rattle.term_change.specs.Replacing.{Replacements, substitute, substitute_array, Fits, FitsArray, replaced_var, replaced_array}
+use Rattle.term_replace.specs.Replacing.{Replacements, substitute, substitute_array, Fits, FitsArray, replaced_var, replaced_array}
 use Rattle.term_tree.proofs.FoundLemmas.{found}
 use Rattle.term_arena.specs.Nodes.{Node, term_at, array_at, Keeps}
 use Rattle.term_arena.specs.Built.{built}

@@ -9,10 +9,10 @@ use Rattle.term_rules.specs.declared.rules.Right as code
 use Rattle.term_tree.specs.Terms.{Tree, lit, one, two, IsTyped, width_of, applied}
 use Rattle.term_rules.specs.Rules.{given, made_one, made_two, rule_of}
 use Rattle.term_rules.specs.Shapes.{right_of}
-use Rattle.term_rules.specs.Making.{Made, make}
+use Rattle.term_make.specs.Making.{Made, make}
 use Rattle.term_rules.specs.Laws.{IsTypedRight}
-use Rattle.term_rules.proofs.SizeLemmas.{work}
-use Rattle.term_rules.proofs.TypedLemmas.{make_typed, make_width, two_typed}
+use Rattle.term_make.proofs.SizeLemmas.{work}
+use Rattle.term_make.proofs.TypedLemmas.{make_typed, make_width, two_typed}
 use Rattle.term_arena.specs.declared.node.TermId.{TermId}
 use Rattle.term_arena.specs.Nodes.{Node, of_term, Keeps}
 use Rattle.term_arena.specs.Arena.{IsArena}

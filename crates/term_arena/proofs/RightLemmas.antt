@@ -4,8 +4,8 @@ use Rattle.std.specs.Prelude.{Option}
 use Rattle.bv_bits.specs.declared.Op.{Op}
 use Rattle.term_tree.specs.Terms.{Tree, one, two}
 use Rattle.term_rules.specs.Rules.{Right, given, made_one, made_two, rule_of}
-use Rattle.term_rules.specs.Making.{Made, just, made_then, asks, build, make_by, make}
-use Rattle.term_rules.proofs.StepLemmas.{make_steps}
+use Rattle.term_make.specs.Making.{Made, just, made_then, asks, build, make_by, make}
+use Rattle.term_make.proofs.StepLemmas.{make_steps}
 use Rattle.term_arena.specs.Nodes.{of_term}
 use Rattle.term_arena.specs.Built.{arguments_of, built}
 use Rattle.term_arena.specs.Said.{Answers, Said, single, said_of, said_then, said_right}

@@ -6,9 +6,9 @@ use Rattle.bv_bits.specs.declared.Op.TheVariants.{Eq, ULt, Ite}
 use Rattle.bv_bits.specs.Bits.{result_width_of}
 use Rattle.term_tree.specs.declared.term.TermFault.{TermFault}
 use Rattle.term_tree.specs.Terms.{Text, Tree, two, three, sel, ArrayTree, array, upd, splice, IsTyped, IsTypedArray, IsIndex, width_of}
-use Rattle.term_rules.specs.Making.{make}
-use Rattle.term_change.specs.Selecting.{select}
-use Rattle.term_change.proofs.SelectingLemmas.{choice_typed, select_typed}
+use Rattle.term_make.specs.Making.{make}
+use Rattle.term_select.specs.Selecting.{select}
+use Rattle.term_select.proofs.SelectingLemmas.{choice_typed, select_typed}
 use Rattle.term_arena.specs.declared.node.TermId.{TermId}
 use Rattle.term_arena.specs.declared.node.ArrayId.{ArrayId}
 use Rattle.term_arena.specs.Nodes.{Node, of_term, Keeps}

@@ -6,7 +6,7 @@ use Rattle.std.proofs.lemmas.List.Elements.{All-head, All-tail, All-map, All-wea
 use Rattle.std.proofs.lemmas.Slice.Eq.{bytes_eq-Decides}
 use Rattle.std.proofs.lemmas.Bool.Decides.{eqb_tells}
 use Rattle.term_tree.specs.Terms.{Text, Tree, var, ArrayTree, array, IsTyped, IsTypedArray, width_of}
-use Rattle.term_change.specs.Replacing.{Replacements, substitute, substitute_array, Fits}
+use Rattle.term_replace.specs.Replacing.{Replacements, substitute, substitute_array, Fits}
 use Rattle.term_tree.proofs.WidthLemmas.{width_is}
 use Rattle.term_arena.specs.declared.node.TermId.{TermId}
 use Rattle.term_arena.specs.declared.node.ArrayId.{ArrayId}

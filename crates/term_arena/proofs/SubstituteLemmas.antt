@@ -4,12 +4,12 @@ use Rattle.std.specs.Prelude.{Result, Ok, IfOk}
 use Rattle.bv_bits.specs.declared.Op.{Op}
 use Rattle.term_tree.specs.declared.term.TermFault.{TermFault}
 use Rattle.term_tree.specs.Terms.{Text, Tree, one, two, three, sel, ArrayTree, upd, splice, IsTyped, IsTypedArray, width_of}
-use Rattle.term_rules.specs.Making.{Made, just, make}
-use Rattle.term_change.specs.Selecting.{select}
-use Rattle.term_change.specs.Replacing.{Replacements, substitute, substitute_array, replaced_array, update, join_at, Fits, FitsArray}
-use Rattle.term_change.specs.Laws.{AreTyped}
-use Rattle.term_rules.proofs.TypedLemmas.{one_typed, two_typed, three_typed}
-use Rattle.term_change.proofs.ReplaceLemmas.{substitute_typed, substitute_array_typed}
+use Rattle.term_make.specs.Making.{Made, just, make}
+use Rattle.term_select.specs.Selecting.{select}
+use Rattle.term_replace.specs.Replacing.{Replacements, substitute, substitute_array, replaced_array, update, join_at, Fits, FitsArray}
+use Rattle.term_replace.specs.Laws.{AreTyped}
+use Rattle.term_make.proofs.TypedLemmas.{one_typed, two_typed, three_typed}
+use Rattle.term_replace.proofs.ReplaceLemmas.{substitute_typed, substitute_array_typed}
 use Rattle.term_arena.specs.declared.node.TermId.{TermId}
 use Rattle.term_arena.specs.declared.node.ArrayId.{ArrayId}
 use Rattle.term_arena.specs.Nodes.{Node, Keeps}

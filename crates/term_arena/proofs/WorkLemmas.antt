@@ -2,11 +2,11 @@
 use Rattle.std.proofs.Common.{◌≡◌, ℕ, ◌<◌, ◌≤◌, max, Some, arith}
 use Rattle.term_tree.specs.Terms.{Tree, lit, var, one, two, three, sel, IsTyped}
 use Rattle.term_rules.specs.Rules.{Right, given, made_one, made_two, rule_of}
-use Rattle.term_rules.specs.Making.{build, make}
+use Rattle.term_make.specs.Making.{build, make}
 use Rattle.term_tree.specs.Sizes.{size}
 use Rattle.term_rules.specs.Laws.{IsTypedRight}
-use Rattle.term_rules.proofs.SizeLemmas.{IsWithin, work}
-use Rattle.term_rules.proofs.MakeLemmas.{calls_below}
+use Rattle.term_make.proofs.SizeLemmas.{IsWithin, work}
+use Rattle.term_make.proofs.MakeLemmas.{calls_below}
 use Rattle.term_rules.proofs.TypedLemmas.{right_typed}
 
 -- the most work of an application on a right side

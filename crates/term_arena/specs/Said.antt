@@ -3,7 +3,7 @@ use Rattle.std.specs.Prelude.{List, [], ◌∷◌, ◌++◌}
 use Rattle.term_tree.specs.Terms.{Tree, ArrayTree}
 use Rattle.term_rules.specs.Rules.{Right, given, made_one, made_two}
 use Rattle.term_tree.specs.Terms.{one, two}
-use Rattle.term_rules.specs.Making.{Made, make}
+use Rattle.term_make.specs.Making.{Made, make}
 use Rattle.term_arena.specs.Nodes.{Meaning, of_term, as_term}
 use Rattle.term_arena.specs.Built.{built, parts, array_parts}
 

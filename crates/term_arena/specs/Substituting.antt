@@ -2,8 +2,8 @@
 use Rattle.std.specs.Prelude.{◌≡◌, ◌≢◌, ℕ, ◌<◌, List, [], Option, Some, None, All, map}
 use Rattle.bv_bits.specs.declared.Bits.{Bits}
 use Rattle.term_tree.specs.Terms.{Text, Tree, lit, var, one, two, three, sel, ArrayTree, array, IsTyped, IsTypedArray, width_of}
-use Rattle.term_change.specs.Replacing.{Replacements, substitute, substitute_array, Fits, FitsArray}
-use Rattle.term_change.specs.Laws.{AreTyped}
+use Rattle.term_replace.specs.Replacing.{Replacements, substitute, substitute_array, Fits, FitsArray}
+use Rattle.term_replace.specs.Laws.{AreTyped}
 use Rattle.term_arena.specs.declared.node.TermId.{TermId}
 use Rattle.term_arena.specs.declared.node.ArrayId.{ArrayId}
 use Rattle.term_arena.specs.declared.substituting.TermTop.{TermTop}

@@ -7,7 +7,7 @@ ghost use Rattle.bv_bits.specs.Bits.{IsBits};
 ghost use Rattle.term_rules.specs.Rules.{rule_of};
 ghost use Rattle.term_rules.specs.Shapes.{right_of};
 ghost use Rattle.term_rules.specs.Laws.{IsTypedRight};
-ghost use Rattle.term_rules.specs.Making as spec;
+ghost use Rattle.term_make.specs.Making as spec;
 ghost use Rattle.term_arena.specs.Nodes.{as_term, meaning_by, meanings_of, Keeps};
 ghost use Rattle.term_arena.specs.Arena.{asked_node};
 ghost use Rattle.term_arena.specs.Keeping.{HasArray};

@@ -2,10 +2,10 @@
 
 ghost use Rattle.std.specs.Prelude.{◌≡◌, None, Err, IfOk, OnOk};
 ghost use Rattle.term_tree.specs.Terms.{Text, Tree, two, three, sel, IsTyped, IsTerm, IsIndex};
-ghost use Rattle.term_change.specs.Selecting.{select};
-ghost use Rattle.term_rules.specs.Making.{asks, just};
-ghost use Rattle.term_change.specs.Replacing as replace;
-ghost use Rattle.term_change.specs.Replacing.{Replacements, Fits, replaced_array};
+ghost use Rattle.term_select.specs.Selecting.{select};
+ghost use Rattle.term_make.specs.Making.{asks, just};
+ghost use Rattle.term_replace.specs.Replacing as replace;
+ghost use Rattle.term_replace.specs.Replacing.{Replacements, Fits, replaced_array};
 ghost use Rattle.term_arena.specs.Answers.{id_term};
 ghost use Rattle.term_arena.specs.Said.{said_of};
 ghost use Rattle.term_arena.specs.Makes.{Makes};

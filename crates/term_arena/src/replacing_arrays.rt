@@ -2,8 +2,8 @@
 
 ghost use Rattle.std.specs.Prelude.{◌≡◌, None, Err, IfOk, OnOk};
 ghost use Rattle.term_tree.specs.Terms.{upd, splice, IsTypedArray, IsArrayTerm};
-ghost use Rattle.term_change.specs.Replacing as replace;
-ghost use Rattle.term_change.specs.Replacing.{Replacements, FitsArray};
+ghost use Rattle.term_replace.specs.Replacing as replace;
+ghost use Rattle.term_replace.specs.Replacing.{Replacements, FitsArray};
 ghost use Rattle.term_arena.specs.Answers.{id_term, id_array};
 ghost use Rattle.term_arena.specs.Said.{said_of};
 ghost use Rattle.term_arena.specs.Makes.{Makes};

@@ -2,8 +2,8 @@
 
 ghost use Rattle.std.specs.Prelude.{◌≡◌, ◌≢◌, ◌≤◌, ◌<◌, ◌++◌, ◌⊎◌, [], ◌∷◌, length, Err, IfOk, OnErr};
 ghost use Rattle.term_tree.specs.Terms.{upd, splice, IsTyped, IsTypedArray, IsTerm, IsArrayTerm, IsIndex, width_of};
-ghost use Rattle.term_change.specs.Selecting.{select};
-ghost use Rattle.term_change.specs.Replacing as replace;
+ghost use Rattle.term_select.specs.Selecting.{select};
+ghost use Rattle.term_replace.specs.Replacing as replace;
 ghost use Rattle.term_arena.specs.Nodes.{as_array, meaning_by, meanings_of, Keeps};
 ghost use Rattle.term_arena.specs.Arena.{asked_node};
 ghost use Rattle.term_arena.specs.Keeping.{HasArray};

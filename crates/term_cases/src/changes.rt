@@ -4,15 +4,16 @@ ghost use Rattle.std.specs.Prelude.{◌≡◌, ◌≤◌, length, IfOk, Ok};
 ghost use Rattle.lex_core.specs.Lexing.{cut};
 ghost use Rattle.term_tree.specs.Terms.{IsTerm};
 ghost use Rattle.term_tree.specs.View.{tree};
-ghost use Rattle.term_change.specs.Replaced.{AreTerms, replacements};
+ghost use Rattle.term_replace.specs.Replaced.{AreTerms, replacements};
 ghost use Rattle.term_read.specs.ReadingView.{AreDistinct, AreWidths};
 
 use crate::scope::scope;
 use crate::texts::{array_text, text_of};
 use lex_core::{Name, Token, tokens};
 use std::alloc::Global;
-use term_change::{fits, fits_array, select, substitute, substitute_array};
 use term_read::{TermReadFault, read_array, read_term};
+use term_replace::{fits, fits_array, substitute, substitute_array};
+use term_select::select;
 use term_tree::{ArrayForm, ArrayTerm, Form, Term, VarDecl, array_form_of, form_of, width};
 
 /// The fault of texts that don't fit together.

@@ -9,9 +9,10 @@ use crate::scope::scope;
 use bv_bits::Bits;
 use lex_core::{NoMemory, tokens};
 use std::alloc::Global;
+use term_copy::subterms;
 use term_print::{array_has_no_division, has_no_division, print_array, print_term};
 use term_read::{TermReadFault, read_array, read_term};
-use term_tree::{ArrayTerm, Term, subterms, value_one};
+use term_tree::{ArrayTerm, Term, value_one};
 
 /// The text of a term, if it has one.
 pub fn text_of(alloc: Global, term: &Term) -> Result<String, TermReadFault>

@@ -5,7 +5,7 @@ use Rattle.term_tree.specs.Divisions.{ArrayHasNoDivision}
 use Rattle.term_print.specs.Words.{Word, opens, closes, name}
 use Rattle.term_read.specs.Scopes.{Scope}
 use Rattle.term_read.specs.Spelling.{Words, placed, Spells, ArraySpells, an_array, an_update, a_splice}
-use Rattle.term_rules.specs.Normal.{IsNormalArray}
+use Rattle.term_make.specs.Normal.{IsNormalArray}
 use Rattle.term_print.specs.TermWords.{term_words, array_words}
 use Rattle.term_read.specs.WordLaws.{Follows}
 use Rattle.term_read.specs.DeclaredTerms.{IsDeclaredArray}

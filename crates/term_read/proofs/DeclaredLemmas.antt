@@ -6,19 +6,19 @@ use Rattle.lex_core.specs.declared.token.Token.{Token}
 use Rattle.lex_core.specs.Lexing.{cut}
 use Rattle.term_tree.specs.declared.term.Sort.TheVariants as sort
 use Rattle.term_tree.specs.Terms.{Text, Tree, lit, var, one, two, three, sel, ArrayTree, array, upd, splice, applied, width_of}
-use Rattle.term_rules.specs.Making.{make}
-use Rattle.term_change.specs.Selecting.{select}
+use Rattle.term_make.specs.Making.{make}
+use Rattle.term_select.specs.Selecting.{select}
 use Rattle.term_print.specs.Words.{lexemes}
 use Rattle.term_read.specs.Scopes.{Scope, sort_of}
 use Rattle.term_read.specs.Reading.{term_from, array_from}
 use Rattle.term_read.specs.DeclaredTerms.{IsDeclared, IsDeclaredArray}
 use Rattle.term_print.specs.PrintedLaws.{IsName, HasNames, ArrayHasNames}
-use Rattle.term_rules.proofs.AnswerLemmas.{within_is}
+use Rattle.term_make.proofs.AnswerLemmas.{within_is}
 use Rattle.term_read.proofs.ReadingLemmas.{no_width, four_widths, not_some}
 use Rattle.term_read.proofs.SoundLemmas.{read_is_spelled}
 use Rattle.term_read.proofs.ArraySoundLemmas.{read_array_is_spelled}
 use Rattle.term_tree.specs.Variables.{HasVariables, ArrayHasVariables}
-use Rattle.term_rules.proofs.VariableLemmas.{make_variables}
+use Rattle.term_make.proofs.VariableLemmas.{make_variables}
 use Rattle.term_read.proofs.SpelledPartLemmas.{OfTerms, IsSpelledSo, ArrayIsSpelledSo, spelled_so, array_spelled_so}
 use Rattle.term_read.proofs.FormedLemmas.{IsFormed, tokens_formed}
 

@@ -3,14 +3,14 @@ use Rattle.std.proofs.Common.{ℕ, List, [], ◌∷◌, subst}
 use Rattle.bv_bits.specs.declared.Op.{Op}
 use Rattle.std.specs.Prelude.{⊤}
 use Rattle.term_tree.specs.Terms.{Tree, ArrayTree, array, applied}
-use Rattle.term_rules.specs.Making.{make}
-use Rattle.term_change.specs.Selecting.{select}
+use Rattle.term_make.specs.Making.{make}
+use Rattle.term_select.specs.Selecting.{select}
 use Rattle.term_read.specs.Scopes.{Scope}
 use Rattle.term_read.specs.Spelling.{Words, Spells, ArraySpells}
-use Rattle.term_rules.specs.Normal.{IsNormal, normal_literal, normal_variable, normal_selection, HasNormalParts, IsNormalArray}
-use Rattle.term_rules.proofs.AnswerLemmas.{within_is}
+use Rattle.term_make.specs.Normal.{IsNormal, normal_literal, normal_variable, normal_selection, HasNormalParts, IsNormalArray}
+use Rattle.term_make.proofs.AnswerLemmas.{within_is}
 use Rattle.term_read.proofs.SpelledPartLemmas.{OfTerms, any_words, IsSpelledSo, ArrayIsSpelledSo, spelled_so, array_spelled_so}
-use Rattle.term_rules.proofs.NormalLemmas.{make_normal}
+use Rattle.term_make.proofs.NormalLemmas.{make_normal}
 
 -- ---- what is spelled is normal
 

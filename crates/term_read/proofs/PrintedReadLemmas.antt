@@ -12,7 +12,7 @@ use Rattle.term_print.specs.Words.{Word, Lexeme, lexeme, lexemes}
 use Rattle.term_read.specs.Scopes.{Scope}
 use Rattle.term_read.specs.Reading.{term_from, array_from}
 use Rattle.term_read.specs.Spelling.{Words}
-use Rattle.term_rules.specs.Normal.{IsNormal, IsNormalArray}
+use Rattle.term_make.specs.Normal.{IsNormal, IsNormalArray}
 use Rattle.term_print.specs.TermWords.{term_words, array_words}
 use Rattle.term_read.specs.WordLaws.{Follows}
 use Rattle.term_read.specs.DeclaredTerms.{IsDeclared, IsDeclaredArray}

@@ -11,7 +11,7 @@ use Rattle.term_print.specs.Words.{lexemes}
 use Rattle.term_read.specs.Scopes.{Scope}
 use Rattle.term_read.specs.Reading.{term_from, array_from}
 use Rattle.term_read.specs.ReadingView.{AreWidths}
-use Rattle.term_rules.specs.Normal.{IsNormal, IsNormalArray}
+use Rattle.term_make.specs.Normal.{IsNormal, IsNormalArray}
 use Rattle.term_print.specs.TermWords.{term_words, array_words}
 use Rattle.term_read.specs.DeclaredTerms.{IsDeclared, IsDeclaredArray}
 use Rattle.term_print.specs.PrintedLaws.{HasNames, ArrayHasNames}

@@ -4,8 +4,8 @@ use Rattle.std.specs.Prelude.{⊤, bytes_eq}
 use Rattle.bv_bits.specs.declared.Op.{Op}
 use Rattle.lex_core.specs.declared.token.Token.{Token}
 use Rattle.term_tree.specs.Terms.{Text, Tree, ArrayTree, array, applied}
-use Rattle.term_rules.specs.Making.{plain, make}
-use Rattle.term_change.specs.Selecting.{select}
+use Rattle.term_make.specs.Making.{plain, make}
+use Rattle.term_select.specs.Selecting.{select}
 use Rattle.term_tree.specs.Divisions.{is_division, HasNoDivision, ArrayHasNoDivision}
 use Rattle.term_print.specs.Words.{lexemes}
 use Rattle.term_read.specs.Scopes.{Scope}
@@ -13,12 +13,12 @@ use Rattle.term_read.specs.Operators.{operators, operator_in, operator_of}
 use Rattle.term_read.specs.Reading.{term_from, array_from}
 use Rattle.term_read.specs.Spelling as spelling
 use Rattle.term_read.specs.Spelling.{Words, Heads, extracting, zero_extending, sign_extending}
-use Rattle.term_rules.proofs.StepLemmas.{is_made}
-use Rattle.term_rules.proofs.AnswerLemmas.{within_is}
+use Rattle.term_make.proofs.StepLemmas.{is_made}
+use Rattle.term_make.proofs.AnswerLemmas.{within_is}
 use Rattle.term_read.proofs.SpelledPartLemmas.{OfTerms, any_words, IsSpelledSo, ArrayIsSpelledSo, spelled_so, array_spelled_so}
 use Rattle.term_read.proofs.SoundLemmas.{read_is_spelled}
 use Rattle.term_read.proofs.ArraySoundLemmas.{read_array_is_spelled}
-use Rattle.term_rules.proofs.DivisionLemmas.{made_whole, no_op, same_op_whole}
+use Rattle.term_make.proofs.DivisionLemmas.{made_whole, no_op, same_op_whole}
 
 -- ---- operators that have a word
 

@@ -7,15 +7,15 @@ use Rattle.lex_core.specs.declared.token.Token.{Token}
 use Rattle.lex_core.specs.Lexing.{cut}
 use Rattle.term_tree.specs.Terms.{Text, Tree, lit, var, sel, ArrayTree, array, applied, height, array_height, HIGHEST, IsTyped, IsTerm, IsArrayTerm}
 use Rattle.term_rules.specs.Rules.{Right, rule_of}
-use Rattle.term_rules.specs.Making.{Asked, Made, just, asks, build, make_by, make, is_high, within_height}
-use Rattle.term_change.specs.Selecting.{select}
+use Rattle.term_make.specs.Making.{Asked, Made, just, asks, build, make_by, make, is_high, within_height}
+use Rattle.term_select.specs.Selecting.{select}
 use Rattle.term_print.specs.Words.{lexemes}
 use Rattle.term_read.specs.Scopes.{Scope}
 use Rattle.term_read.specs.Reading.{term_from, array_from}
 use Rattle.term_read.specs.ReadingView.{AreTerms, AreWidths}
-use Rattle.term_rules.proofs.AnswerLemmas.{within_is, high_asks}
-use Rattle.term_rules.proofs.StepLemmas.{make_steps}
-use Rattle.term_rules.proofs.TypedLemmas.{make_typed}
+use Rattle.term_make.proofs.AnswerLemmas.{within_is, high_asks}
+use Rattle.term_make.proofs.StepLemmas.{make_steps}
+use Rattle.term_make.proofs.TypedLemmas.{make_typed}
 use Rattle.term_read.proofs.ReadingLemmas.{applied_typed, declared_width, variable_term, literal_term}
 use Rattle.term_read.proofs.SoundLemmas.{read_is_spelled}
 use Rattle.term_read.proofs.ArraySoundLemmas.{read_array_is_spelled}

@@ -14,8 +14,8 @@ use Rattle.term_tree.specs.declared.term.Sort.TheVariants as sort
 use Rattle.term_read.specs.Scopes.{Scope, sort_of}
 use Rattle.bv_bits.specs.declared.Bits.{Bits}
 use Rattle.term_tree.specs.Terms.{Text, Tree, lit, var, sel, array, IsTyped, IsTerm, applied, width_of, height, HIGHEST}
-use Rattle.term_change.specs.Selecting.{select}
-use Rattle.term_rules.specs.Making.{within_height}
+use Rattle.term_select.specs.Selecting.{select}
+use Rattle.term_make.specs.Making.{within_height}
 use Rattle.term_tree.specs.declared.term.Term.{Term}
 use Rattle.term_tree.specs.View.{tree}
 use Rattle.term_read.specs.Reading.{Frame, arguments, index}

@@ -10,8 +10,8 @@ use Rattle.term_tree.specs.declared.term.Sort.{Sort}
 use Rattle.term_tree.specs.declared.term.Sort.TheVariants as sort
 use Rattle.term_read.specs.declared.reading.TermReadFault.{TermReadFault}
 use Rattle.term_tree.specs.Terms.{Text, Tree, lit, var, array, applied, width_of}
-use Rattle.term_rules.specs.Making.{make, within_height}
-use Rattle.term_change.specs.Selecting.{select}
+use Rattle.term_make.specs.Making.{make, within_height}
+use Rattle.term_select.specs.Selecting.{select}
 use Rattle.term_print.specs.Words.{Word, opens, closes, name, number, literal, other, Lexeme, lexeme, lexemes}
 use Rattle.term_read.specs.Operators.{arity, operator_of}
 use Rattle.term_read.specs.Scopes.{Scope, sort_of}

@@ -7,8 +7,8 @@ use Rattle.bv_bits.specs.declared.Op.{Op}
 use Rattle.bv_bits.specs.declared.Op.TheVariants.{Not}
 use Rattle.bv_bits.specs.Bits.{result_width_of}
 use Rattle.term_tree.specs.Terms.{Text, Tree, array, applied, width_of}
-use Rattle.term_rules.specs.Making.{make, within_height}
-use Rattle.term_change.specs.Selecting.{select}
+use Rattle.term_make.specs.Making.{make, within_height}
+use Rattle.term_select.specs.Selecting.{select}
 use Rattle.term_print.specs.Words.{name, opens, closes, number, literal, Lexeme, lexemes}
 use Rattle.term_read.specs.Operators.{arity, operator_of}
 use Rattle.term_read.specs.Scopes.{Scope}

@@ -6,18 +6,18 @@ use Rattle.bv_bits.specs.declared.Op.{Op}
 use Rattle.bv_bits.specs.declared.Op.TheVariants.{Not, Neg, UDiv, URem, SDiv, SRem, Extract, ZExt, SExt, Ite}
 use Rattle.bv_bits.specs.Bits.{result_width_of}
 use Rattle.term_tree.specs.Terms.{Tree, lit, var, one, two, three, sel, applied, IsTyped, IsTerm, width_of, height, HIGHEST}
-use Rattle.term_rules.specs.Making.{make, within_height}
+use Rattle.term_make.specs.Making.{make, within_height}
 use Rattle.term_print.specs.Printing.{op_word, op_numbers}
 use Rattle.term_tree.specs.Divisions.{is_division, HasNoDivision}
 use Rattle.term_print.specs.Words.{Word, opens, closes, name, number, literal, Lexeme}
 use Rattle.term_read.specs.Operators.{arity, operator_of}
 use Rattle.term_read.specs.Scopes.{Scope}
 use Rattle.term_read.specs.Spelling.{Words, placed, Heads, plain, extracting, zero_extending, sign_extending, Spells, a_literal, a_variable, an_application, a_selection, Arguments, no_more, one_more}
-use Rattle.term_rules.specs.Normal.{IsNormal, normal_one, normal_two, normal_three, normal_selection}
+use Rattle.term_make.specs.Normal.{IsNormal, normal_one, normal_two, normal_three, normal_selection}
 use Rattle.term_print.specs.TermWords.{head_words, term_words}
 use Rattle.term_read.specs.WordLaws.{Follows}
 use Rattle.term_read.specs.DeclaredTerms.{IsDeclared}
-use Rattle.term_rules.proofs.NormalLemmas.{normal_made}
+use Rattle.term_make.proofs.NormalLemmas.{normal_made}
 use Rattle.term_read.proofs.ReadingLemmas.{selection_low}
 
 -- words in a row are followed part by part

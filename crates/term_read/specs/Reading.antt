@@ -10,8 +10,8 @@ use Rattle.term_tree.specs.declared.term.TermFault.TheVariants as limit
 use Rattle.term_read.specs.declared.reading.TermReadFault.{TermReadFault}
 use Rattle.term_read.specs.declared.reading.TermReadFault.TheVariants as fault
 use Rattle.term_tree.specs.Terms.{Text, Tree, lit, var, ArrayTree, array, upd, splice, applied, width_of, array_height, HIGHEST}
-use Rattle.term_rules.specs.Making.{Made, make, within_height}
-use Rattle.term_change.specs.Selecting.{select}
+use Rattle.term_make.specs.Making.{Made, make, within_height}
+use Rattle.term_select.specs.Selecting.{select}
 use Rattle.term_print.specs.Words.{Word, opens, closes, name, number, literal, Lexeme, lexemes}
 use Rattle.term_read.specs.Operators.{arity, operator_of}
 use Rattle.term_read.specs.Scopes.{Scope, sort_of}

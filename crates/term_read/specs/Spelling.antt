@@ -6,8 +6,8 @@ use Rattle.bv_bits.specs.declared.Op.TheVariants.{Extract, ZExt, SExt}
 use Rattle.bv_bits.specs.Bits.{result_width_of}
 use Rattle.term_tree.specs.declared.term.Sort.TheVariants as sort
 use Rattle.term_tree.specs.Terms.{Text, Tree, lit, var, ArrayTree, array, upd, splice, applied, width_of, array_height, HIGHEST}
-use Rattle.term_rules.specs.Making.{make, within_height}
-use Rattle.term_change.specs.Selecting.{select}
+use Rattle.term_make.specs.Making.{make, within_height}
+use Rattle.term_select.specs.Selecting.{select}
 use Rattle.term_print.specs.Words.{Word, opens, closes, name, number, literal, Lexeme}
 use Rattle.term_read.specs.Operators.{arity, operator_of}
 use Rattle.term_read.specs.Scopes.{Scope, sort_of}

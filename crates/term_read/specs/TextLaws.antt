@@ -6,7 +6,7 @@ use Rattle.term_print.specs.Words.{lexemes}
 use Rattle.term_read.specs.Scopes.{Scope}
 use Rattle.term_read.specs.Reading.{DEEPEST, term_from, array_from}
 use Rattle.term_read.specs.Spelling.{Words, Spells, ArraySpells}
-use Rattle.term_rules.specs.Normal.{IsNormal}
+use Rattle.term_make.specs.Normal.{IsNormal}
 
 -- what is read is spelled by the tokens from the first one up to the next
 abbrev pub ReadIsSpelled : Type 0

@@ -6,7 +6,7 @@ use Rattle.term_print.specs.Words.{Word}
 use Rattle.term_read.specs.Scopes.{Scope}
 use Rattle.term_read.specs.Reading.{DEEPEST}
 use Rattle.term_read.specs.Spelling.{Words, Spells, ArraySpells}
-use Rattle.term_rules.specs.Normal.{IsNormal, IsNormalArray}
+use Rattle.term_make.specs.Normal.{IsNormal, IsNormalArray}
 use Rattle.term_print.specs.TermWords.{array_words, term_words}
 use Rattle.term_read.specs.DeclaredTerms.{IsDeclared, IsDeclaredArray}
 

@@ -5,9 +5,9 @@ ghost use Rattle.std.specs.Option.{option_map};
 ghost use Rattle.bv_bits.specs.Bits.{IsBits, IsWidth, result_width_of};
 ghost use Rattle.term_tree.specs.declared.term.TermFault.TheVariants as limit;
 ghost use Rattle.term_tree.specs.Terms.{lit, var, IsTerm, IsTyped, height, width_of, HIGHEST, applied};
-ghost use Rattle.term_rules.specs.Making.{make, within_height};
+ghost use Rattle.term_make.specs.Making.{make, within_height};
 ghost use Rattle.term_tree.specs.View.{tree};
-ghost use Rattle.term_rules.specs.Answers.{Answers};
+ghost use Rattle.term_make.specs.Answers.{Answers};
 ghost use Rattle.term_read.specs.WordView.{word_view, IsFineWord};
 ghost use Rattle.term_read.specs.Scopes.{sort_of as sort_in};
 ghost use Rattle.term_read.specs.Operators.{arity as arity_of};
@@ -20,8 +20,8 @@ use bv_bits::{Bits, Op};
 use lex_core::{Name, NoMemory};
 use sqlite_items::Items;
 use std::alloc::Global;
-use term_change::byte_of_variable;
-use term_rules::make;
+use term_make::make;
+use term_select::byte_of_variable;
 use term_tree::{Sort, Term, TermFault, VarDecl, width};
 
 /// How deep brackets nest at most.

@@ -7,8 +7,8 @@ use Rattle.term_rules.specs.declared.rules.Right.TheVariants as right
 use Rattle.term_rules.specs.Rules.{given, made_two}
 use Rattle.term_rules.specs.Shapes.{right_of}
 use Rattle.term_rules.specs.Laws.{IsTypedRight}
-use Rattle.term_rules.specs.Making as spec
-use Rattle.term_rules.proofs.SizeLemmas.{work}
+use Rattle.term_make.specs.Making as spec
+use Rattle.term_make.proofs.SizeLemmas.{work}
 use Rattle.term_arena.specs.declared.node.TermId.{TermId}
 use Rattle.term_arena.specs.Nodes.{Node}
 use Rattle.term_arena.specs.Answers.{id_term}

@@ -1,7 +1,7 @@
 use Rattle.std.proofs.Common.{◌+◌, ◌*◌, map}
 use Rattle.term_tree.specs.Terms.{applied}
 use Rattle.term_rules.specs.Shapes.{right_of}
-use Rattle.term_rules.proofs.SizeLemmas.{work}
+use Rattle.term_make.proofs.SizeLemmas.{work}
 use Rattle.term_arena.specs.Answers.{id_term}
 use Rattle.term_arena.proofs.WorkLemmas.{right_work}
 use Rattle.term_arena.proofs.terms.Terms.+making.Given as goal

@@ -1,7 +1,7 @@
 use Rattle.std.proofs.Common.{refl, ap, sym, ◌∙◌, subst, arith}
 use Rattle.term_tree.specs.Terms.{upd, splice, IsTypedArray}
-use Rattle.term_rules.specs.Making.{just}
-use Rattle.term_change.specs.Replacing.{substitute, substitute_array, FitsArray}
+use Rattle.term_make.specs.Making.{just}
+use Rattle.term_replace.specs.Replacing.{substitute, substitute_array, FitsArray}
 use Rattle.term_arena.specs.Answers.{id_term, id_array}
 use Rattle.term_arena.proofs.MeaningLemmas.{keeps_itself, keeps_trans}
 use Rattle.term_arena.proofs.MakesLemmas.{reaches_start, reaches_step, reaches_stop, reaches_end, makes_stop, makes_none, on_any}

@@ -2,8 +2,8 @@ use Rattle.std.proofs.Common.{ap, sym, subst, arith}
 use Rattle.std.proofs.lemmas.Option.{get_or_from_slice_get}
 use Rattle.bv_bits.specs.declared.Op.TheVariants.{Eq, ULt}
 use Rattle.term_tree.specs.Terms.{Text, Tree, two, sel, upd, splice, IsTypedArray}
-use Rattle.term_rules.specs.Making.{make}
-use Rattle.term_change.specs.Selecting.{select}
+use Rattle.term_make.specs.Making.{make}
+use Rattle.term_select.specs.Selecting.{select}
 use Rattle.term_arena.specs.Nodes.{lit_node}
 use Rattle.term_arena.specs.Arena.{name_of}
 use Rattle.term_arena.specs.Answers.{id_term, id_array}

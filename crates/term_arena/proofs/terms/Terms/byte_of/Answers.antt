@@ -1,7 +1,7 @@
 use Rattle.std.proofs.Common.{ap, sym, ◌∙◌, subst}
 use Rattle.term_tree.specs.Terms.{Tree, ArrayTree, array, IsTypedArray}
-use Rattle.term_change.specs.Selecting.{select}
-use Rattle.term_change.proofs.ReplaceLemmas.{substitute_array_typed}
+use Rattle.term_select.specs.Selecting.{select}
+use Rattle.term_replace.proofs.ReplaceLemmas.{substitute_array_typed}
 use Rattle.term_arena.specs.Nodes.{array_at}
 use Rattle.term_arena.specs.Answers.{id_term}
 use Rattle.term_arena.specs.Said.{Said, said_of}

@@ -1,6 +1,6 @@
 use Rattle.std.proofs.Common.{◌≡◌, [], ◌∷◌, ap, sym, ◌∙◌, subst}
 use Rattle.term_tree.specs.Terms.{Text, Tree, sel}
-use Rattle.term_rules.specs.Making.{asks, just}
+use Rattle.term_make.specs.Making.{asks, just}
 use Rattle.term_arena.specs.Nodes.{of_term}
 use Rattle.term_arena.specs.Answers.{id_term}
 use Rattle.term_arena.specs.Said.{Said, said_of}

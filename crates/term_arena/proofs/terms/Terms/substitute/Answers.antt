@@ -1,6 +1,6 @@
 use Rattle.std.proofs.Common.{ap, sym}
 use Rattle.term_tree.specs.Terms.{Tree}
-use Rattle.term_change.specs.Replacing.{Replacements, substitute}
+use Rattle.term_replace.specs.Replacing.{Replacements, substitute}
 use Rattle.term_arena.specs.Answers.{id_term}
 use Rattle.term_arena.specs.Said.{Said, said_of}
 use Rattle.term_arena.specs.Substituting.{replacements}
