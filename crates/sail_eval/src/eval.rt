@@ -1,9 +1,10 @@
 //! What expressions mean: the evaluator, one cycle of functions over the tree.
 
-ghost use Rattle.std.specs.Prelude.{◌≡◌, ◌+◌, ◌-◌, List, [], reverse, map};
+ghost use Rattle.std.specs.Prelude.{◌≡◌, ◌+◌, ◌-◌, true, List, [], reverse, map};
 ghost use Rattle.sail_eval.specs.Agrees.{Agrees};
 ghost use Rattle.sail_eval.specs.Eval.{eval, eval_chain, eval_all, eval_arms, eval_step, eval_steps, turns, turn};
 ghost use Rattle.sail_eval.specs.Inside.{calls_in};
+ghost use Rattle.sail_eval.specs.Kinds.{is_act, is_choice};
 ghost use Rattle.sail_values.specs.declared.value.Slot.{Slot};
 ghost use Rattle.sail_values.specs.declared.value.Value.{Value};
 ghost use Rattle.sail_syntax.specs.View.{tree, trees, choice_of, cases_of, step_of, steps_of};
@@ -49,6 +50,29 @@ pub fn eval(
             let value = eval(alloc, text, of.get(), locals, state)?;
             Ok(widened(*signed, *to, value))
         }
+        Node::If { .. } | Node::Match { .. } | Node::Foreach { .. } => {
+            eval_choice(alloc, text, e, locals, state)
+        }
+        Node::Assert { .. } | Node::Exit | Node::Assign { .. } | Node::Block(_) => {
+            eval_act(alloc, text, e, locals, state)
+        }
+    }
+}
+
+/// What an expression means that chooses or repeats.
+#[cycle(eval)]
+fn eval_choice(
+    alloc: Global,
+    text: &Text<'_>,
+    e: &Expr,
+    locals: &mut Slots,
+    state: &mut State,
+) -> Result<Value, Stop>
+    requires { is_choice (tree e.now) ≡ true }
+    ensures value { Agrees result locals.new (world_of state.new text.now.answers.now text.now.log.now) (eval text.now.registers.now (calls_in text.now.registers.now text.now.defs.now) (tree e.now) locals.old (world_of state.old text.now.answers.now text.now.log.now)) }
+    ensures widths { widths_of state.new ≡ widths_of state.old }
+{
+    match &e.node {
         Node::If { test, yes, no } => {
             let holds = is_true(eval(alloc, text, test.get(), locals, state)?);
             if holds {
@@ -70,6 +94,24 @@ pub fn eval(
             to,
             body,
         } => eval_turns(alloc, text, var, *from, *to, body.get(), locals, state),
+        _ => Ok(Value::Unit),
+    }
+}
+
+/// What an expression means that tests, ends, changes something or has statements.
+#[cycle(eval)]
+fn eval_act(
+    alloc: Global,
+    text: &Text<'_>,
+    e: &Expr,
+    locals: &mut Slots,
+    state: &mut State,
+) -> Result<Value, Stop>
+    requires { is_act (tree e.now) ≡ true }
+    ensures value { Agrees result locals.new (world_of state.new text.now.answers.now text.now.log.now) (eval text.now.registers.now (calls_in text.now.registers.now text.now.defs.now) (tree e.now) locals.old (world_of state.old text.now.answers.now text.now.log.now)) }
+    ensures widths { widths_of state.new ≡ widths_of state.old }
+{
+    match &e.node {
         Node::Assert { test, .. } => {
             let holds = is_true(eval(alloc, text, test.get(), locals, state)?);
             if holds {
@@ -96,6 +138,7 @@ pub fn eval(
             locals.keep(depth);
             Ok(value)
         }
+        _ => Ok(Value::Unit),
     }
 }
 

@@ -42,22 +42,28 @@ abbrev pub decreases-call_function : goal.decreases-call_function
 decreases-call_function l = weight l.text.now.defs.now + 1
 
 abbrev pub decreases-eval : goal.decreases-eval
-decreases-eval l = weight l.text.now.defs.now + 4 * goal.size-eval l
+decreases-eval l = weight l.text.now.defs.now + 4 * goal.size-eval l + 1
+
+abbrev pub decreases-eval_choice : goal.decreases-eval_choice
+decreases-eval_choice l = weight l.text.now.defs.now + 4 * goal.size-eval_choice l
+
+abbrev pub decreases-eval_act : goal.decreases-eval_act
+decreases-eval_act l = weight l.text.now.defs.now + 4 * goal.size-eval_act l
 
 abbrev pub decreases-eval_all : goal.decreases-eval_all
-decreases-eval_all l = weight l.text.now.defs.now + 4 * goal.size-eval_all l + 1
+decreases-eval_all l = weight l.text.now.defs.now + 4 * goal.size-eval_all l + 2
 
 abbrev pub decreases-eval_arms : goal.decreases-eval_arms
-decreases-eval_arms l = weight l.text.now.defs.now + 4 * goal.size-eval_arms l + 1
+decreases-eval_arms l = weight l.text.now.defs.now + 4 * goal.size-eval_arms l + 2
 
 abbrev pub decreases-eval_chain : goal.decreases-eval_chain
-decreases-eval_chain l = weight l.text.now.defs.now + 4 * goal.size-eval_chain l + 1
+decreases-eval_chain l = weight l.text.now.defs.now + 4 * goal.size-eval_chain l + 2
 
 abbrev pub decreases-eval_step : goal.decreases-eval_step
 decreases-eval_step l = weight l.text.now.defs.now + 4 * goal.size-eval_step l
 
 abbrev pub decreases-eval_steps : goal.decreases-eval_steps
-decreases-eval_steps l = weight l.text.now.defs.now + 4 * goal.size-eval_steps l + 1
+decreases-eval_steps l = weight l.text.now.defs.now + 4 * goal.size-eval_steps l + 2
 
 abbrev pub decreases-eval_turns : goal.decreases-eval_turns
-decreases-eval_turns l = weight l.text.now.defs.now + 4 * goal.size-eval_turns l + 1
+decreases-eval_turns l = weight l.text.now.defs.now + 4 * goal.size-eval_turns l + 2
