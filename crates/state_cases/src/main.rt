@@ -17,23 +17,34 @@ mod registers;
 
 use case_lines::{is_comment, words};
 use memory::Machine;
+use std::alloc::{AllocError, Global};
 use std::io;
+
+/// What is told of a line.
+fn case(alloc: Global, machine: &mut Machine, line: &str) -> Result<String, AllocError> {
+    let words = words(alloc, line)?;
+    match words.as_slice() {
+        ["registers", number] => registers::told(alloc, number),
+        words => machine.told(alloc, words),
+    }
+}
+
+/// Prints a line and what is told of it.
+fn tell(rt: &HostRuntime, machine: &mut Machine, line: &str) -> io::Result<()> {
+    if is_comment(line) {
+        println!(rt; "{line}")
+    } else {
+        let told = case(rt.alloc(), machine, line)?;
+        println!(rt; "{line}{told}")
+    }
+}
 
 fn main(rt: HostRuntime) -> io::Result<()> {
     let alloc = rt.alloc();
     let mut machine = Machine::new(alloc)?;
     for line in rt.lines(alloc) {
         let line = line?;
-        if is_comment(line.as_str()) {
-            println!(rt; "{line}")?;
-            continue;
-        }
-        let words = words(alloc, line.as_str())?;
-        let told = match words.as_slice() {
-            ["registers", number] => registers::told(alloc, number)?,
-            words => machine.told(alloc, words)?,
-        };
-        println!(rt; "{line}{told}")?;
+        tell(&rt, &mut machine, line.as_str())?;
     }
     Ok(())
 }

@@ -77,90 +77,116 @@ impl Machine {
         Ok(())
     }
 
+    /// Begins again.
+    fn begin(&mut self, alloc: Global) -> Result<(), AllocError> {
+        *self = Machine::new(alloc)?;
+        Ok(())
+    }
+
+    /// Adds a device.
+    fn device(&mut self, lo: u64, hi: u64) -> Result<(), AllocError> {
+        self.devs.ranges.push(Range { lo, hi })
+    }
+
     /// Takes a line that builds, and says whether it is one.
     fn built(&mut self, alloc: Global, words: &[&str]) -> Result<bool, AllocError> {
         match words {
-            ["new"] => *self = Machine::new(alloc)?,
+            ["new"] => self.begin(alloc)?,
             ["bytes", at, digits] => self.add(alloc, address(at), digits)?,
-            ["device", lo, hi] => {
-                let range = Range {
-                    lo: address(lo),
-                    hi: address(hi),
-                };
-                self.devs.ranges.push(range)?;
-            }
+            ["device", lo, hi] => self.device(address(lo), address(hi))?,
             ["answer", answer] => self.answers.list.push(value(answer))?,
             _ => return Ok(false),
         }
         Ok(true)
     }
 
+    /// What a read of the state itself answers.
+    fn read(&self, alloc: Global, at: u64, bytes: &str) -> Result<String, AllocError> {
+        match self.state.read_bytes(at, count(bytes)) {
+            Some(number) => format!(in alloc; " = {number:#x}"),
+            None => String::from_str(alloc, " = none"),
+        }
+    }
+
+    /// What a write of the state itself answers.
+    fn write(
+        &mut self,
+        alloc: Global,
+        at: u64,
+        bytes: &str,
+        number: u128,
+    ) -> Result<String, AllocError> {
+        let done = self.state.write_bytes(at, count(bytes), number);
+        format!(in alloc; " = {done}")
+    }
+
     /// What a read or a write of the state itself answers.
     fn plain(&mut self, alloc: Global, words: &[&str]) -> Result<String, AllocError> {
         match words {
-            ["read", at, bytes] => match self.state.read_bytes(address(at), count(bytes)) {
-                Some(number) => format!(in alloc; " = {number:#x}"),
-                None => String::from_str(alloc, " = none"),
-            },
-            ["write", at, bytes, number] => {
-                let done = self
-                    .state
-                    .write_bytes(address(at), count(bytes), value(number));
-                format!(in alloc; " = {done}")
-            }
+            ["read", at, bytes] => self.read(alloc, address(at), bytes),
+            ["write", at, bytes, number] => self.write(alloc, address(at), bytes, value(number)),
             _ => String::from_str(alloc, " = no such case"),
         }
+    }
+
+    /// What a fetch answers.
+    fn fetched(&mut self, alloc: Global, at: u64, bytes: &str) -> Result<String, AllocError> {
+        let word = fetch(&self.devs, at, count(bytes), &self.state, &mut self.log);
+        format!(in alloc; " = {word:?}")
+    }
+
+    /// What a load answers.
+    fn loaded(&mut self, alloc: Global, at: u64, bytes: &str) -> Result<String, AllocError> {
+        let loaded = load(
+            &self.devs,
+            at,
+            count(bytes),
+            &self.state,
+            &mut self.answers,
+            &mut self.log,
+        );
+        format!(in alloc; " = {loaded:?}")
+    }
+
+    /// What a store of two bytes answers.
+    fn stored(&mut self, alloc: Global, at: u64, number: u16) -> Result<String, AllocError> {
+        let stored = store(
+            &self.devs,
+            at,
+            2,
+            u128::from(number),
+            &mut self.state,
+            &mut self.log,
+        );
+        format!(in alloc; " = {stored:?}")
     }
 
     /// What an access of a program answers.
     fn accessed(&mut self, alloc: Global, words: &[&str]) -> Result<String, AllocError> {
         match words {
-            ["fetch", at, bytes] => {
-                let word = fetch(
-                    &self.devs,
-                    address(at),
-                    count(bytes),
-                    &self.state,
-                    &mut self.log,
-                );
-                format!(in alloc; " = {word:?}")
-            }
-            ["load", at, bytes] => {
-                let loaded = load(
-                    &self.devs,
-                    address(at),
-                    count(bytes),
-                    &self.state,
-                    &mut self.answers,
-                    &mut self.log,
-                );
-                format!(in alloc; " = {loaded:?}")
-            }
-            ["store", at, "2", number] => {
-                let stored = store(
-                    &self.devs,
-                    address(at),
-                    2,
-                    u128::from(short(number)),
-                    &mut self.state,
-                    &mut self.log,
-                );
-                format!(in alloc; " = {stored:?}")
-            }
+            ["fetch", at, bytes] => self.fetched(alloc, address(at), bytes),
+            ["load", at, bytes] => self.loaded(alloc, address(at), bytes),
+            ["store", at, "2", number] => self.stored(alloc, address(at), short(number)),
             _ => self.plain(alloc, words),
+        }
+    }
+
+    /// What the log and the answers hold, or what an access answers.
+    fn listed(&mut self, alloc: Global, words: &[&str]) -> Result<String, AllocError> {
+        match words {
+            ["accesses"] => format!(in alloc; " = {:?}", self.log.accesses.as_slice()),
+            ["events"] => format!(in alloc; " = {:?}", self.log.events.as_slice()),
+            ["taken"] => format!(in alloc; " = {}", self.answers.next),
+            _ => self.accessed(alloc, words),
         }
     }
 
     /// What is told of a line's words.
     pub fn told(&mut self, alloc: Global, words: &[&str]) -> Result<String, AllocError> {
         if self.built(alloc, words)? {
-            return Ok(String::new(alloc));
-        }
-        match words {
-            ["accesses"] => format!(in alloc; " = {:?}", self.log.accesses.as_slice()),
-            ["events"] => format!(in alloc; " = {:?}", self.log.events.as_slice()),
-            ["taken"] => format!(in alloc; " = {}", self.answers.next),
-            _ => self.accessed(alloc, words),
+            Ok(String::new(alloc))
+        } else {
+            self.listed(alloc, words)
         }
     }
 }
