@@ -1,4 +1,4 @@
+pub mod ProofFormCut
 pub mod ProofFormItems
-pub mod ProofFormLemmas
 pub mod ProofFormRead
 pub mod ProofFormSpelled

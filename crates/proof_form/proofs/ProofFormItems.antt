@@ -5,13 +5,14 @@ use Rattle.bv_bits.specs.declared.Bits.{Bits}
 use Rattle.bv_bits.specs.Bits.{IsBits}
 use Rattle.lex_core.specs.Classes.{Text}
 use Rattle.proof_form.specs.declared.form.NamedValue.{NamedValue}
-use Rattle.proof_form.specs.declared.rest.Stop.{Stop}
-use Rattle.proof_form.specs.declared.rest.Stop.TheVariants as stop
-use Rattle.proof_form.specs.declared.rest.Rest.{Rest}
-use Rattle.proof_form.specs.ProofFormReaders.{Gives}
-use Rattle.proof_form.specs.ProofFormWords.{Lexeme, the_name, the_mark, name_of, literal_of}
+use Rattle.proof_words.specs.declared.rest.Stop.{Stop}
+use Rattle.proof_words.specs.declared.rest.Stop.TheVariants as stop
+use Rattle.proof_words.specs.declared.rest.Rest.{Rest}
+use Rattle.proof_words.specs.ProofFormReaders.{Gives}
+use Rattle.proof_words.specs.ProofFormWords.{Lexeme, the_name, the_mark, name_of, literal_of}
 use Rattle.read_rules.specs.Binding.{◌>>=◌}
-use Rattle.proof_form.specs.ProofForm.{Reading, item, items, AreBits}
+use Rattle.proof_words.specs.ProofFormTaking.{Reading, one, over}
+use Rattle.proof_form.specs.ProofForm.{item, items, AreBits}
 
 -- what stands behind a choice, case by case
 pub on_bind : {A B : Type 0} (o : Option A) (f g : A → Option B) → ((x : A) → f x ≡ g x) → (o >>= f) ≡ (o >>= g)
@@ -45,7 +46,7 @@ chain_of r n e l s xs =
     chain (the_name (codes "reg") r.kind r.bytes) (name_of n.kind n.bytes) (the_mark (codes "=") e.kind e.bytes) (literal_of l.kind l.bytes) (the_mark (codes ";") s.kind s.bytes) xs
 
 pub item_five : (r n e l s : Lexeme) (xs : List Lexeme) → item (r ∷ n ∷ e ∷ l ∷ s ∷ xs) ≡ chain_of r n e l s xs
-unfolding item
+unfolding item one over
 item_five r n e l s xs =
     over_next (the_name (codes "reg") r.kind r.bytes) _ _
     ∙ on_bind _ _ _ (λ _. one_next (name_of n.kind n.bytes) _ _
@@ -55,7 +56,7 @@ item_five r n e l s xs =
 
 -- fewer lexemes are no item
 pub item_short : (xs : List Lexeme) → length xs < 5 → item xs ≡ None
-unfolding item
+unfolding item one over
 item_short [] h = refl
 item_short (r ∷ []) h = over_next (the_name (codes "reg") r.kind r.bytes) _ _ ∙ dead _ _ (λ _. refl)
 item_short (r ∷ n ∷ []) h =

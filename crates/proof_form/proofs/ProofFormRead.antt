@@ -15,9 +15,10 @@ use Rattle.lex_core.specs.Lexing.{cut}
 use Rattle.proof_form.specs.declared.form.ReadProof.TheVariants as read
 use Rattle.proof_form.specs.declared.form.NamedValue.{NamedValue}
 use Rattle.proof_form.specs.declared.form.NamedProof.{NamedProof}
-use Rattle.proof_form.specs.ProofFormWords.{Lexeme, lexemes, Word, Is, Spell, kept, name_of, mark_of, number_of, literal_of, address_of, full_address_of, the_name, the_mark, the_version, free_name_of, is_free, is_close, name, mark, number, address, full_address, literal}
+use Rattle.proof_words.specs.ProofFormWords.{Lexeme, lexemes, Word, Is, Spell, kept, name_of, mark_of, number_of, literal_of, address_of, full_address_of, the_name, the_mark, the_version, free_name_of, is_free, is_close, name, mark, number, address, full_address, literal}
 use Rattle.proof_form.specs.ProofForm as spec
-use Rattle.proof_form.specs.ProofForm.{Reading}
+use Rattle.proof_words.specs.ProofFormTaking as taking
+use Rattle.proof_words.specs.ProofFormTaking.{Reading}
 use Rattle.proof_form.specs.ProofFormSpelling.{item_words, body_words, head_words, code_words, exit_words, block_words, tail_words, spelling, AreNames}
 use Rattle.proof_form.proofs.ProofFormItems.{item_five}
 use Rattle.proof_form.proofs.ProofFormSpelled.{SpellTo, done, step}
@@ -35,29 +36,31 @@ spell_all (w ∷ ws) (x ∷ xs) h = step w x ws xs [] h.0 (spell_all ws xs h.1)
 keep : {A : Type 0} (p : A → Bool) (o : Option A) (x : A) → o ≡ Some x → p x ≡ true → kept p o ≡ Some x
 keep p o x e h = rw (e, h) refl
 
-one_first : {A : Type 0} (f : Kind → Text → Option A) (x : Lexeme) (xs : List Lexeme) (v : A) → f x.kind x.bytes ≡ Some v → spec.one f (x ∷ xs) ≡ Some (v, xs)
+one_first : {A : Type 0} (f : Kind → Text → Option A) (x : Lexeme) (xs : List Lexeme) (v : A) → f x.kind x.bytes ≡ Some v → taking.one f (x ∷ xs) ≡ Some (v, xs)
+unfolding taking.one
 one_first f x xs v h = rw h refl
 
-over_first : {A : Type 0} (f : Kind → Text → Option A) (x : Lexeme) (xs : List Lexeme) (v : A) → f x.kind x.bytes ≡ Some v → spec.over f (x ∷ xs) ≡ Some xs
+over_first : {A : Type 0} (f : Kind → Text → Option A) (x : Lexeme) (xs : List Lexeme) (v : A) → f x.kind x.bytes ≡ Some v → taking.over f (x ∷ xs) ≡ Some xs
+unfolding taking.one taking.over
 over_first f x xs v h = rw h refl
 
 -- each in front of other words
-word_off : {P : Type 0} (z : Text) (ws : List Word) (xs rest : List Lexeme) → SpellTo (name z ∷ ws) xs rest → ((ys : List Lexeme) → spec.word z xs ≡ Some ys → SpellTo ws ys rest → P) → P
+word_off : {P : Type 0} (z : Text) (ws : List Word) (xs rest : List Lexeme) → SpellTo (name z ∷ ws) xs rest → ((ys : List Lexeme) → taking.word z xs ≡ Some ys → SpellTo ws ys rest → P) → P
 word_off z ws _ rest (step _ x _ xs _ is h) k = k xs (over_first (the_name z) x xs z (keep (λ y. bytes_eq y z) (name_of x.kind x.bytes) z is (bytes_itself z))) h
 
-mark_off : {P : Type 0} (z : Text) (ws : List Word) (xs rest : List Lexeme) → SpellTo (mark z ∷ ws) xs rest → ((ys : List Lexeme) → spec.mark z xs ≡ Some ys → SpellTo ws ys rest → P) → P
+mark_off : {P : Type 0} (z : Text) (ws : List Word) (xs rest : List Lexeme) → SpellTo (mark z ∷ ws) xs rest → ((ys : List Lexeme) → taking.mark z xs ≡ Some ys → SpellTo ws ys rest → P) → P
 mark_off z ws _ rest (step _ x _ xs _ is h) k = k xs (over_first (the_mark z) x xs z (keep (λ y. bytes_eq y z) (mark_of x.kind x.bytes) z is (bytes_itself z))) h
 
-version_off : {P : Type 0} (ws : List Word) (xs rest : List Lexeme) → SpellTo (number 1 ∷ ws) xs rest → ((ys : List Lexeme) → spec.over the_version xs ≡ Some ys → SpellTo ws ys rest → P) → P
+version_off : {P : Type 0} (ws : List Word) (xs rest : List Lexeme) → SpellTo (number 1 ∷ ws) xs rest → ((ys : List Lexeme) → taking.over the_version xs ≡ Some ys → SpellTo ws ys rest → P) → P
 version_off ws _ rest (step _ x _ xs _ is h) k = k xs (over_first the_version x xs 1 (keep (λ n. n == 1) (number_of x.kind x.bytes) 1 is refl)) h
 
-free_off : {P : Type 0} (z : Text) (ws : List Word) (xs rest : List Lexeme) → is_free z ≡ true → SpellTo (name z ∷ ws) xs rest → ((ys : List Lexeme) → spec.one free_name_of xs ≡ Some (z, ys) → SpellTo ws ys rest → P) → P
+free_off : {P : Type 0} (z : Text) (ws : List Word) (xs rest : List Lexeme) → is_free z ≡ true → SpellTo (name z ∷ ws) xs rest → ((ys : List Lexeme) → taking.one free_name_of xs ≡ Some (z, ys) → SpellTo ws ys rest → P) → P
 free_off z ws _ rest free (step _ x _ xs _ is h) k = k xs (one_first free_name_of x xs z (keep is_free (name_of x.kind x.bytes) z is free)) h
 
-address_off : {P : Type 0} (n : ℕ) (ws : List Word) (xs rest : List Lexeme) → SpellTo (address n ∷ ws) xs rest → ((ys : List Lexeme) → spec.one address_of xs ≡ Some (n, ys) → SpellTo ws ys rest → P) → P
+address_off : {P : Type 0} (n : ℕ) (ws : List Word) (xs rest : List Lexeme) → SpellTo (address n ∷ ws) xs rest → ((ys : List Lexeme) → taking.one address_of xs ≡ Some (n, ys) → SpellTo ws ys rest → P) → P
 address_off n ws _ rest (step _ x _ xs _ is h) k = k xs (one_first address_of x xs n is) h
 
-full_address_off : {P : Type 0} (n : ℕ) (ws : List Word) (xs rest : List Lexeme) → SpellTo (full_address n ∷ ws) xs rest → ((ys : List Lexeme) → spec.one full_address_of xs ≡ Some (n, ys) → SpellTo ws ys rest → P) → P
+full_address_off : {P : Type 0} (n : ℕ) (ws : List Word) (xs rest : List Lexeme) → SpellTo (full_address n ∷ ws) xs rest → ((ys : List Lexeme) → taking.one full_address_of xs ≡ Some (n, ys) → SpellTo ws ys rest → P) → P
 full_address_off n ws _ rest (step _ x _ xs _ is h) k = k xs (one_first full_address_of x xs n is) h
 
 -- ---- items
@@ -130,8 +133,8 @@ first_close (y ∷ before) behind x i none close =
     let same : i + 1 + length before ≡ i + length (y ∷ before) = omega arith in
     rw goes (next ∙ ap Some same)
 
-up_to_close_read : (before behind : List Lexeme) (x : Lexeme) → list_all (λ y. not (is_close y)) before ≡ true → is_close x ≡ true → spec.up_to_close (before ++ x ∷ behind) ≡ Some (before, behind)
-unfolding spec.up_to_close
+up_to_close_read : (before behind : List Lexeme) (x : Lexeme) → list_all (λ y. not (is_close y)) before ≡ true → is_close x ≡ true → taking.up_to_close (before ++ x ∷ behind) ≡ Some (before, behind)
+unfolding taking.up_to_close
 up_to_close_read before behind x none close =
     let place : position_from is_close 0 (before ++ x ∷ behind) ≡ Some (length before) = let zero_more : 0 + length before ≡ length before = omega arith in first_close before behind x 0 none close ∙ ap Some zero_more in
     rw (place, take-append_seam before (x ∷ behind), drop-append-add before (x ∷ behind) 1) refl
@@ -151,7 +154,7 @@ body_off vs ws xs rest h k =
     (λ before behind x e none close items k2.
     word_off (codes "steps") _ behind rest k2 (λ steps h3 k3.
     mark_off (codes "{") _ steps rest k3 (λ end h4 k4.
-    let parts : spec.up_to_close inside ≡ Some (before, behind) = ap spec.up_to_close e ∙ up_to_close_read before behind x none close in
+    let parts : taking.up_to_close inside ≡ Some (before, behind) = ap taking.up_to_close e ∙ up_to_close_read before behind x none close in
     k end (rw (h1, parts, items_read vs before items, h3, h4) refl) k4
     ))))
 

@@ -13,10 +13,11 @@ use Rattle.lex_core.specs.Lexing.{cut, Outcome}
 use Rattle.proof_form.specs.declared.form.ReadProof.TheVariants as read
 use Rattle.proof_form.specs.declared.form.NamedValue.{NamedValue}
 use Rattle.proof_form.specs.declared.form.NamedProof.{NamedProof}
-use Rattle.proof_form.specs.ProofFormWords.{Lexeme, lexemes, Word, Is, Spell, kept, name_of, mark_of, number_of, literal_of, address_of, full_address_of, the_name, the_mark, the_version, free_name_of, is_free, is_close, name, mark, number, address, full_address, literal}
+use Rattle.proof_words.specs.ProofFormWords.{Lexeme, lexemes, Word, Is, Spell, kept, name_of, mark_of, number_of, literal_of, address_of, full_address_of, the_name, the_mark, the_version, free_name_of, is_free, is_close, name, mark, number, address, full_address, literal}
 use Rattle.proof_form.specs.ProofForm as spec
+use Rattle.proof_words.specs.ProofFormTaking as taking
 use Rattle.read_rules.specs.Binding.{◌>>=◌}
-use Rattle.proof_form.specs.ProofForm.{Reading}
+use Rattle.proof_words.specs.ProofFormTaking.{Reading}
 use Rattle.proof_form.specs.ProofFormSpelling.{item_words, body_words, head_words, code_words, exit_words, block_words, tail_words, spelling, AreNames}
 use Rattle.proof_form.proofs.ProofFormItems.{five_some, item_five}
 use Rattle.std.proofs.lemmas.Option.{same_Some}
@@ -63,59 +64,61 @@ same_bytes x z h = grind (arith, bytes_eq-Decides, h)
 
 -- ---- one lexeme
 
-pub one_spelled : {A : Type 0} (f : Kind → Text → Option A) (xs : List Lexeme) (y : A × List Lexeme) → spec.one f xs ≡ Some y → (x : Lexeme) × (xs ≡ x ∷ y.1) × (f x.kind x.bytes ≡ Some y.0)
+pub one_spelled : {A : Type 0} (f : Kind → Text → Option A) (xs : List Lexeme) (y : A × List Lexeme) → taking.one f xs ≡ Some y → (x : Lexeme) × (xs ≡ x ∷ y.1) × (f x.kind x.bytes ≡ Some y.0)
+unfolding taking.one
 one_spelled f [] y h = absurd cc
 one_spelled f (x ∷ xs) y h =
     let read = bind_some (f x.kind x.bytes) _ y h in
     let same = same_Some (read.0, xs) y read.2 in
     (x, ap (λ p. x ∷ p.1) same, read.1 ∙ ap (λ p. Some p.0) same)
 
-over_spelled : {A : Type 0} (f : Kind → Text → Option A) (xs rest : List Lexeme) → spec.over f xs ≡ Some rest → (x : Lexeme) × (v : A) × (xs ≡ x ∷ rest) × (f x.kind x.bytes ≡ Some v)
+over_spelled : {A : Type 0} (f : Kind → Text → Option A) (xs rest : List Lexeme) → taking.over f xs ≡ Some rest → (x : Lexeme) × (v : A) × (xs ≡ x ∷ rest) × (f x.kind x.bytes ≡ Some v)
+unfolding taking.over
 over_spelled f xs rest h =
-    let found = bind_some (spec.one f xs) (λ found. Some found.1) rest h in
+    let found = bind_some (taking.one f xs) (λ found. Some found.1) rest h in
     let one = one_spelled f xs found.0 found.1 in
     (one.0, found.0.0, one.1 ∙ ap (λ ys. one.0 ∷ ys) (same_Some found.0.1 rest found.2), one.2)
 
 -- each in front of other words
-word_on : (z : Text) (ws : List Word) (xs mid rest : List Lexeme) → spec.word z xs ≡ Some mid → SpellTo ws mid rest → SpellTo (name z ∷ ws) xs rest
+word_on : (z : Text) (ws : List Word) (xs mid rest : List Lexeme) → taking.word z xs ≡ Some mid → SpellTo ws mid rest → SpellTo (name z ∷ ws) xs rest
 word_on z ws xs mid rest h k =
     let over = over_spelled (the_name z) xs mid h in
     let test = kept_some (λ x. bytes_eq x z) (name_of over.0.kind over.0.bytes) over.1 over.3 in
     spell_more (name z) ws xs mid rest over.0 over.2 (test.0 ∙ ap Some (same_bytes over.1 z test.1)) k
 
-mark_on : (z : Text) (ws : List Word) (xs mid rest : List Lexeme) → spec.mark z xs ≡ Some mid → SpellTo ws mid rest → SpellTo (mark z ∷ ws) xs rest
+mark_on : (z : Text) (ws : List Word) (xs mid rest : List Lexeme) → taking.mark z xs ≡ Some mid → SpellTo ws mid rest → SpellTo (mark z ∷ ws) xs rest
 mark_on z ws xs mid rest h k =
     let over = over_spelled (the_mark z) xs mid h in
     let test = kept_some (λ x. bytes_eq x z) (mark_of over.0.kind over.0.bytes) over.1 over.3 in
     spell_more (mark z) ws xs mid rest over.0 over.2 (test.0 ∙ ap Some (same_bytes over.1 z test.1)) k
 
-version_on : (ws : List Word) (xs mid rest : List Lexeme) → spec.over the_version xs ≡ Some mid → SpellTo ws mid rest → SpellTo (number 1 ∷ ws) xs rest
+version_on : (ws : List Word) (xs mid rest : List Lexeme) → taking.over the_version xs ≡ Some mid → SpellTo ws mid rest → SpellTo (number 1 ∷ ws) xs rest
 version_on ws xs mid rest h k =
     let over = over_spelled the_version xs mid h in
     let test = kept_some (λ n. n == 1) (number_of over.0.kind over.0.bytes) over.1 over.3 in
     let is : over.1 ≡ 1 = grind (arith, nat_tests, test.1) in
     spell_more (number 1) ws xs mid rest over.0 over.2 (test.0 ∙ ap Some is) k
 
-free_on : (ws : List Word) (xs rest : List Lexeme) (y : Text × List Lexeme) → spec.one free_name_of xs ≡ Some y → SpellTo ws y.1 rest → SpellTo (name y.0 ∷ ws) xs rest
+free_on : (ws : List Word) (xs rest : List Lexeme) (y : Text × List Lexeme) → taking.one free_name_of xs ≡ Some y → SpellTo ws y.1 rest → SpellTo (name y.0 ∷ ws) xs rest
 free_on ws xs rest y h k =
     let one = one_spelled free_name_of xs y h in
     spell_more (name y.0) ws xs y.1 rest one.0 one.1 (kept_some is_free (name_of one.0.kind one.0.bytes) y.0 one.2).0 k
 
-free_is : (xs : List Lexeme) (y : Text × List Lexeme) → spec.one free_name_of xs ≡ Some y → is_free y.0 ≡ true
+free_is : (xs : List Lexeme) (y : Text × List Lexeme) → taking.one free_name_of xs ≡ Some y → is_free y.0 ≡ true
 free_is xs y h =
     let one = one_spelled free_name_of xs y h in
     (kept_some is_free (name_of one.0.kind one.0.bytes) y.0 one.2).1
 
-name_on : (ws : List Word) (xs rest : List Lexeme) (y : Text × List Lexeme) → spec.one name_of xs ≡ Some y → SpellTo ws y.1 rest → SpellTo (name y.0 ∷ ws) xs rest
+name_on : (ws : List Word) (xs rest : List Lexeme) (y : Text × List Lexeme) → taking.one name_of xs ≡ Some y → SpellTo ws y.1 rest → SpellTo (name y.0 ∷ ws) xs rest
 name_on ws xs rest y h k = let one = one_spelled name_of xs y h in spell_more (name y.0) ws xs y.1 rest one.0 one.1 one.2 k
 
-literal_on : (ws : List Word) (xs rest : List Lexeme) (y : Bits × List Lexeme) → spec.one literal_of xs ≡ Some y → SpellTo ws y.1 rest → SpellTo (literal y.0 ∷ ws) xs rest
+literal_on : (ws : List Word) (xs rest : List Lexeme) (y : Bits × List Lexeme) → taking.one literal_of xs ≡ Some y → SpellTo ws y.1 rest → SpellTo (literal y.0 ∷ ws) xs rest
 literal_on ws xs rest y h k = let one = one_spelled literal_of xs y h in spell_more (literal y.0) ws xs y.1 rest one.0 one.1 one.2 k
 
-address_on : (ws : List Word) (xs rest : List Lexeme) (y : ℕ × List Lexeme) → spec.one address_of xs ≡ Some y → SpellTo ws y.1 rest → SpellTo (address y.0 ∷ ws) xs rest
+address_on : (ws : List Word) (xs rest : List Lexeme) (y : ℕ × List Lexeme) → taking.one address_of xs ≡ Some y → SpellTo ws y.1 rest → SpellTo (address y.0 ∷ ws) xs rest
 address_on ws xs rest y h k = let one = one_spelled address_of xs y h in spell_more (address y.0) ws xs y.1 rest one.0 one.1 one.2 k
 
-full_address_on : (ws : List Word) (xs rest : List Lexeme) (y : ℕ × List Lexeme) → spec.one full_address_of xs ≡ Some y → SpellTo ws y.1 rest → SpellTo (full_address y.0 ∷ ws) xs rest
+full_address_on : (ws : List Word) (xs rest : List Lexeme) (y : ℕ × List Lexeme) → taking.one full_address_of xs ≡ Some y → SpellTo ws y.1 rest → SpellTo (full_address y.0 ∷ ws) xs rest
 full_address_on ws xs rest y h k = let one = one_spelled full_address_of xs y h in spell_more (full_address y.0) ws xs y.1 rest one.0 one.1 one.2 k
 
 -- ---- items
@@ -123,11 +126,11 @@ full_address_on ws xs rest y h k = let one = one_spelled full_address_of xs y h 
 item_spelled : (xs : List Lexeme) (y : NamedValue × List Lexeme) → spec.item xs ≡ Some y → SpellTo (item_words y.0) xs y.1
 unfolding spec.item
 item_spelled xs y h =
-    through (spec.word (codes "reg") xs) _ y h (λ begun h1 k1.
-    through (spec.one name_of begun) _ y k1 (λ register h2 k2.
-    through (spec.mark (codes "=") register.1) _ y k2 (λ equals h3 k3.
-    through (spec.one literal_of equals) _ y k3 (λ value h4 k4.
-    through (spec.mark (codes ";") value.1) _ y k4 (λ end h5 k5.
+    through (taking.word (codes "reg") xs) _ y h (λ begun h1 k1.
+    through (taking.one name_of begun) _ y k1 (λ register h2 k2.
+    through (taking.mark (codes "=") register.1) _ y k2 (λ equals h3 k3.
+    through (taking.one literal_of equals) _ y k3 (λ value h4 k4.
+    through (taking.mark (codes ";") value.1) _ y k4 (λ end h5 k5.
     subst (λ p. SpellTo (item_words p.0) xs p.1) (same_Some (record { register = register.0; value = value.0 }, end) y k5)
     (word_on (codes "reg") _ xs begun end h1 (name_on _ begun end register h2 (mark_on (codes "=") _ register.1 equals end h3
     (literal_on _ equals end value h4 (mark_on (codes ";") _ value.1 end end h5 (done end))))))
@@ -182,8 +185,8 @@ close_is x h = by_mark (mark_of x.kind x.bytes) h
         by_test false h = absurd cc
 
 -- what stands before the first `}` and behind it
-up_to_close_spelled : (ws : List Word) (xs : List Lexeme) (y : List Lexeme × List Lexeme) → spec.up_to_close xs ≡ Some y → SpellTo ws y.0 [] → SpellTo (ws ++ mark (codes "}") ∷ []) xs y.1
-unfolding spec.up_to_close
+up_to_close_spelled : (ws : List Word) (xs : List Lexeme) (y : List Lexeme × List Lexeme) → taking.up_to_close xs ≡ Some y → SpellTo ws y.0 [] → SpellTo (ws ++ mark (codes "}") ∷ []) xs y.1
+unfolding taking.up_to_close
 up_to_close_spelled ws xs y h inside =
     let place = bind_some (position_from is_close 0 xs) _ y h in
     let found = close_found xs 0 place.0 place.1 in
@@ -202,13 +205,13 @@ body_spelled : (xs : List Lexeme) (y : List NamedValue × List Lexeme) → spec.
 unfolding spec.body spec.braces
 body_spelled xs y h =
     through (spec.braces xs) _ y h (λ values h1 k1.
-    through (spec.mark (codes "{") xs) _ values h1 (λ inside h2 k2.
-    through (spec.up_to_close inside) _ values k2 (λ parts h3 k3.
+    through (taking.mark (codes "{") xs) _ values h1 (λ inside h2 k2.
+    through (taking.up_to_close inside) _ values k2 (λ parts h3 k3.
     through (spec.items parts.0) _ values k3 (λ items h4 k4.
-    through (spec.word (codes "steps") values.1) _ y k1 (λ steps h5 k5.
-    through (spec.mark (codes "{") steps) _ y k5 (λ end h6 k6.
+    through (taking.word (codes "steps") values.1) _ y k1 (λ steps h5 k5.
+    through (taking.mark (codes "{") steps) _ y k5 (λ end h6 k6.
     let read = same_Some (items, parts.1) values k4 in
-    let steps_at : spec.word (codes "steps") parts.1 ≡ Some steps = ap (λ p. spec.word (codes "steps") p.1) read ∙ h5 in
+    let steps_at : taking.word (codes "steps") parts.1 ≡ Some steps = ap (λ p. taking.word (codes "steps") p.1) read ∙ h5 in
     let same = ap (λ p. (p.0, end)) read ∙ same_Some (values.0, end) y k6 in
     let closed = up_to_close_spelled (flat_map item_words items) inside parts h3 (items_spelled parts.0 items h4) in
     let behind = word_on (codes "steps") _ parts.1 steps end steps_at (mark_on (codes "{") [] steps end end h6 (done end)) in
@@ -221,11 +224,11 @@ body_spelled xs y h =
 head_spelled : (xs : List Lexeme) (y : Text × List Lexeme) → spec.head xs ≡ Some y → SpellTo (head_words y.0) xs y.1 × (is_free y.0 ≡ true)
 unfolding spec.head
 head_spelled xs y h =
-    through (spec.word (codes "islaris_proof") xs) _ y h (λ begun h1 k1.
-    through (spec.over the_version begun) _ y k1 (λ version h2 k2.
-    through (spec.word (codes "spec") version) _ y k2 (λ own h3 k3.
-    through (spec.one free_name_of own) _ y k3 (λ found h4 k4.
-    through (spec.mark (codes "{") found.1) _ y k4 (λ end h5 k5.
+    through (taking.word (codes "islaris_proof") xs) _ y h (λ begun h1 k1.
+    through (taking.over the_version begun) _ y k1 (λ version h2 k2.
+    through (taking.word (codes "spec") version) _ y k2 (λ own h3 k3.
+    through (taking.one free_name_of own) _ y k3 (λ found h4 k4.
+    through (taking.mark (codes "{") found.1) _ y k4 (λ end h5 k5.
     subst (λ p. SpellTo (head_words p.0) xs p.1 × (is_free p.0 ≡ true)) (same_Some (found.0, end) y k5) (
       word_on (codes "islaris_proof") _ xs begun end h1 (version_on _ begun version end h2 (word_on (codes "spec") _ version own end h3
           (free_on _ own end found h4 (mark_on (codes "{") [] found.1 end end h5 (done end))))),
@@ -236,10 +239,10 @@ head_spelled xs y h =
 code_spelled : (xs : List Lexeme) (y : (ℕ × ℕ) × List Lexeme) → spec.code xs ≡ Some y → SpellTo (code_words y.0.0 y.0.1) xs y.1
 unfolding spec.code
 code_spelled xs y h =
-    through (spec.word (codes "code") xs) _ y h (λ begun h1 k1.
-    through (spec.one address_of begun) _ y k1 (λ lo h2 k2.
-    through (spec.one address_of lo.1) _ y k2 (λ hi h3 k3.
-    through (spec.mark (codes ";") hi.1) _ y k3 (λ end h4 k4.
+    through (taking.word (codes "code") xs) _ y h (λ begun h1 k1.
+    through (taking.one address_of begun) _ y k1 (λ lo h2 k2.
+    through (taking.one address_of lo.1) _ y k2 (λ hi h3 k3.
+    through (taking.mark (codes ";") hi.1) _ y k3 (λ end h4 k4.
     subst (λ p. SpellTo (code_words p.0.0 p.0.1) xs p.1) (same_Some ((lo.0, hi.0), end) y k4)
     (word_on (codes "code") _ xs begun end h1 (address_on _ begun end lo h2 (address_on _ lo.1 end hi h3 (mark_on (codes ";") [] hi.1 end end h4 (done end)))))
     ))))
@@ -247,12 +250,12 @@ code_spelled xs y h =
 exit_spelled : (xs : List Lexeme) (y : spec.Point × List Lexeme) → spec.exit xs ≡ Some y → SpellTo (exit_words y.0.name y.0.at y.0.values) xs y.1 × (is_free y.0.name ≡ true)
 unfolding spec.exit
 exit_spelled xs y h =
-    through (spec.word (codes "exit") xs) _ y h (λ begun h1 k1.
-    through (spec.one free_name_of begun) _ y k1 (λ own h2 k2.
-    through (spec.word (codes "at") own.1) _ y k2 (λ place h3 k3.
-    through (spec.one full_address_of place) _ y k3 (λ at h4 k4.
+    through (taking.word (codes "exit") xs) _ y h (λ begun h1 k1.
+    through (taking.one free_name_of begun) _ y k1 (λ own h2 k2.
+    through (taking.word (codes "at") own.1) _ y k2 (λ place h3 k3.
+    through (taking.one full_address_of place) _ y k3 (λ at h4 k4.
     through (spec.body at.1) _ y k4 (λ values h5 k5.
-    through (spec.mark (codes "}") values.1) _ y k5 (λ end h6 k6.
+    through (taking.mark (codes "}") values.1) _ y k5 (λ end h6 k6.
     subst (λ p. SpellTo (exit_words p.0.name p.0.at p.0.values) xs p.1 × (is_free p.0.name ≡ true)) (same_Some (record { name = own.0; at = at.0; values = values.0 }, end) y k6) (
       word_on (codes "exit") _ xs begun end h1 (free_on _ begun end own h2 (word_on (codes "at") _ own.1 place end h3 (full_address_on _ place end at h4
           (spell_on (body_words values.0) (mark (codes "}") ∷ []) at.1 values.1 end (body_spelled at.1 values h5) (mark_on (codes "}") [] values.1 end end h6 (done end)))))),
@@ -263,10 +266,10 @@ exit_spelled xs y h =
 block_spelled : (xs : List Lexeme) (y : spec.Point × List Lexeme) → spec.block xs ≡ Some y → SpellTo (block_words y.0.name y.0.at y.0.values) xs y.1 × (is_free y.0.name ≡ true)
 unfolding spec.block
 block_spelled xs y h =
-    through (spec.word (codes "block") xs) _ y h (λ begun h1 k1.
-    through (spec.one free_name_of begun) _ y k1 (λ own h2 k2.
-    through (spec.word (codes "at") own.1) _ y k2 (λ place h3 k3.
-    through (spec.one address_of place) _ y k3 (λ at h4 k4.
+    through (taking.word (codes "block") xs) _ y h (λ begun h1 k1.
+    through (taking.one free_name_of begun) _ y k1 (λ own h2 k2.
+    through (taking.word (codes "at") own.1) _ y k2 (λ place h3 k3.
+    through (taking.one address_of place) _ y k3 (λ at h4 k4.
     through (spec.body at.1) _ y k4 (λ values h5 k5.
     subst (λ p. SpellTo (block_words p.0.name p.0.at p.0.values) xs p.1 × (is_free p.0.name ≡ true)) (same_Some (record { name = own.0; at = at.0; values = values.0 }, values.1) y k5) (
       word_on (codes "block") _ xs begun values.1 h1 (free_on _ begun values.1 own h2 (word_on (codes "at") _ own.1 place values.1 h3 (address_on _ place values.1 at h4
@@ -278,16 +281,16 @@ block_spelled xs y h =
 marks_on : (y z : Text) (ws : List Word) (xs mid rest : List Lexeme) → spec.marks y z xs ≡ Some mid → SpellTo ws mid rest → SpellTo (mark y ∷ mark z ∷ ws) xs rest
 unfolding spec.marks
 marks_on y z ws xs mid rest h k =
-    through (spec.mark y xs) _ mid h (λ next h1 k1. mark_on y _ xs next rest h1 (mark_on z ws next mid rest k1 k))
+    through (taking.mark y xs) _ mid h (λ next h1 k1. mark_on y _ xs next rest h1 (mark_on z ws next mid rest k1 k))
 
 tail_spelled : (z : Text) (xs rest : List Lexeme) → spec.tail z xs ≡ Some rest → SpellTo (tail_words z) xs rest
 unfolding spec.tail
 tail_spelled z xs rest h =
-    through (spec.word (codes "exit") xs) _ rest h (λ begun h1 k1.
-    through (spec.word z begun) _ rest k1 (λ binds h2 k2.
+    through (taking.word (codes "exit") xs) _ rest h (λ begun h1 k1.
+    through (taking.word z begun) _ rest k1 (λ binds h2 k2.
     through (spec.marks (codes "(") (codes ")") binds) _ rest k2 (λ places h3 k3.
     through (spec.marks (codes "(") (codes ")") places) _ rest k3 (λ end h4 k4.
-    through (spec.mark (codes ";") end) _ rest k4 (λ step h5 k5.
+    through (taking.mark (codes ";") end) _ rest k4 (λ step h5 k5.
     word_on (codes "exit") _ xs begun rest h1 (word_on z _ begun binds rest h2 (marks_on (codes "(") (codes ")") _ binds places rest h3
     (marks_on (codes "(") (codes ")") _ places end rest h4 (mark_on (codes ";") _ end step rest h5 (marks_on (codes "}") (codes "}") [] step rest rest k5 (done rest))))))
     )))))

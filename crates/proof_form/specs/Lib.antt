@@ -1,4 +1,3 @@
 pub mod ProofForm
-pub mod ProofFormReaders
+pub mod ProofFormPoints
 pub mod ProofFormSpelling
-pub mod ProofFormWords

@@ -1,8 +1,6 @@
 -- How a text is read as a proof file of the first form.
-use Rattle.std.specs.Prelude.{ℕ, ◌&&◌, ◌+◌, not, List, [], ◌∷◌, length, take, drop, All, is_some, Option, Some, None, Ok, Err, if◌then◌else◌, bytes_eq, codes, nat_eq}
-use Rattle.std.specs.List.{position_from}
+use Rattle.std.specs.Prelude.{ℕ, ◌&&◌, not, List, [], ◌∷◌, length, All, is_some, Option, Some, None, Ok, Err, if◌then◌else◌, bytes_eq, codes, nat_eq}
 use Rattle.bv_bits.specs.Bits.{IsBits}
-use Rattle.lex_core.specs.declared.token.Kind.{Kind}
 use Rattle.lex_core.specs.declared.token.Token.{Token}
 use Rattle.lex_core.specs.Classes.{Text}
 use Rattle.lex_core.specs.Forms.{bytes_of}
@@ -12,39 +10,10 @@ use Rattle.proof_form.specs.declared.form.NamedProof.{NamedProof}
 use Rattle.proof_form.specs.declared.form.ReadProof.{ReadProof}
 use Rattle.proof_form.specs.declared.form.ReadProof.TheVariants as read
 use Rattle.read_rules.specs.Binding.{◌>>=◌}
-use Rattle.proof_form.specs.ProofFormWords.{Lexeme, lexemes, the_name, the_mark, the_version, name_of, free_name_of, literal_of, address_of, full_address_of, is_close}
+use Rattle.proof_words.specs.ProofFormWords.{Lexeme, lexemes, the_name, the_version, name_of, free_name_of, literal_of, address_of, full_address_of}
+use Rattle.proof_words.specs.ProofFormTaking.{Reading, one, over, word, mark, up_to_close}
 
--- ---- rules: each takes what it reads from the front of the lexemes, and leaves the others; none where its form isn't there
-
--- what a rule reads, and the lexemes that it leaves
-abbrev pub Reading : Type 0 → Type 0
-Reading A = Option (A × List Lexeme)
-
--- the first lexeme
-abbrev pub first : List Lexeme → Reading Lexeme
-first [] = None
-first (x ∷ xs) = Some (x, xs)
-
--- one lexeme, as what it stands for
-abbrev pub one : {A : Type 0} → (Kind → Text → Option A) → List Lexeme → Reading A
-one f xs = do
-  x ← first xs
-  v ← f x.0.kind x.0.bytes
-  Some (v, x.1)
-
--- one lexeme that is passed over
-abbrev pub over : {A : Type 0} → (Kind → Text → Option A) → List Lexeme → Option (List Lexeme)
-over f xs = do
-  found ← one f xs
-  Some found.1
-
--- the name of these bytes
-abbrev pub word : Text → List Lexeme → Option (List Lexeme)
-word z xs = over (the_name z) xs
-
--- the mark of these bytes
-abbrev pub mark : Text → List Lexeme → Option (List Lexeme)
-mark z xs = over (the_mark z) xs
+-- ---- the parts
 
 -- two marks
 unfoldable pub marks : Text → Text → List Lexeme → Option (List Lexeme)
@@ -73,12 +42,6 @@ items (r ∷ []) = None
 items (r ∷ n ∷ []) = None
 items (r ∷ n ∷ e ∷ []) = None
 items (r ∷ n ∷ e ∷ l ∷ []) = None
-
--- the lexemes before the first `}`, and those behind it
-unfoldable pub up_to_close : List Lexeme → Reading (List Lexeme)
-up_to_close xs = do
-  place ← position_from is_close 0 xs
-  Some (take place xs, drop (place + 1) xs)
 
 -- items in braces
 unfoldable pub braces : List Lexeme → Reading (List NamedValue)

@@ -4,7 +4,7 @@ use Rattle.std.specs.List.{flat_map}
 use Rattle.lex_core.specs.Classes.{Text}
 use Rattle.proof_form.specs.declared.form.NamedValue.{NamedValue}
 use Rattle.proof_form.specs.declared.form.NamedProof.{NamedProof}
-use Rattle.proof_form.specs.ProofFormWords.{Word, name, mark, number, address, full_address, literal, is_free}
+use Rattle.proof_words.specs.ProofFormWords.{Word, name, mark, number, address, full_address, literal, is_free}
 
 -- `reg NAME = LITERAL ;`
 abbrev pub item_words : NamedValue → List Word

@@ -4,10 +4,10 @@ ghost use Rattle.std.specs.Prelude.{◌≡◌, IfOk};
 ghost use Rattle.proof_form.specs.ProofForm as spec;
 ghost use Rattle.proof_form.specs.ProofForm.{proof_form, Fits};
 
-use crate::rest::{Rest, Stop, is_word};
 use crate::rules::whole;
 use bv_bits::Bits;
 use lex_core::{LexFault, Name, NoMemory, tokens};
+use proof_words::{Rest, Stop, is_word};
 use sqlite_items::Items;
 use std::alloc::Global;
 
@@ -60,7 +60,7 @@ pub enum ReadProof {
 /// Names of the specification, the exit and the block are none that the grammar of proof files quotes, and begin with
 /// no `_`; the exit and the block have two names. `NoMemory` comes for want of memory alone. The text is gone through
 /// a fixed number of times.
-#[tactic(auto, using(crate::proofs::ProofFormLemmas::outside_at_fault, crate::proofs::ProofFormLemmas::from_tokens))]
+#[tactic(auto, using(crate::proofs::ProofFormCut::outside_at_fault, crate::proofs::ProofFormCut::from_tokens))]
 pub fn read_proof(alloc: Global, text: &[u8]) -> Result<ReadProof, NoMemory>
     ensures exact { IfOk result (λ r. r ≡ proof_form text.now) }
     ensures fits { IfOk result (λ r. Fits r) }
@@ -70,13 +70,7 @@ pub fn read_proof(alloc: Global, text: &[u8]) -> Result<ReadProof, NoMemory>
         Err(LexFault::NoMemory) => return Err(NoMemory),
         Err(_) => return Ok(ReadProof::Outside),
     };
-    of_tokens(
-        alloc,
-        Rest {
-            text,
-            tokens: tokens.as_slice(),
-        },
-    )
+    of_tokens(alloc, Rest::new(text, tokens.as_slice()))
 }
 
 /// What a text is that has these tokens.

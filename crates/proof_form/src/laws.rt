@@ -5,7 +5,7 @@ ghost use Rattle.lex_core.specs.declared.token.Token.{Token};
 ghost use Rattle.lex_core.specs.Lexing.{cut};
 ghost use Rattle.proof_form.specs.declared.form.NamedProof.{NamedProof};
 ghost use Rattle.proof_form.specs.ProofForm.{proof_form};
-ghost use Rattle.proof_form.specs.ProofFormWords.{Spell, lexemes};
+ghost use Rattle.proof_words.specs.ProofFormWords.{Spell, lexemes};
 ghost use Rattle.proof_form.specs.ProofFormSpelling.{spelling, AreNames};
 
 use crate::form::ReadProof;

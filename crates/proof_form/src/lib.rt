@@ -3,7 +3,6 @@
 
 mod form;
 pub mod laws;
-mod rest;
 mod rules;
 
 pub use form::{NamedProof, NamedValue, ReadProof, read_proof};

@@ -4,12 +4,12 @@ ghost use Rattle.std.specs.Prelude.{◌≡◌, IfOk};
 ghost use Rattle.bv_bits.specs.Bits.{IsBits};
 ghost use Rattle.proof_form.specs.ProofForm as spec;
 ghost use Rattle.proof_form.specs.ProofForm.{AreBits};
-ghost use Rattle.proof_form.specs.ProofFormReaders.{Gives, left, point_of};
-ghost use Rattle.proof_form.specs.ProofFormWords as words;
+ghost use Rattle.proof_words.specs.ProofFormReaders.{Gives, left};
+ghost use Rattle.proof_form.specs.ProofFormPoints.{point_of};
 
 use crate::form::{NamedProof, NamedValue};
-use crate::rest::{Rest, Stop};
 use lex_core::Name;
+use proof_words::{Rest, Stop};
 use sqlite_items::Items;
 use std::alloc::Global;
 

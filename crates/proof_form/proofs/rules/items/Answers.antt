@@ -1,7 +1,7 @@
 use Rattle.std.proofs.Common.{◌≡◌, ◌<◌, length, arith}
 use Rattle.std.proofs.lemmas.List.{length-map}
-use Rattle.proof_form.specs.ProofFormWords.{lexeme}
-use Rattle.proof_form.specs.ProofFormReaders.{left}
+use Rattle.proof_words.specs.ProofFormWords.{lexeme}
+use Rattle.proof_words.specs.ProofFormReaders.{left}
 use Rattle.proof_form.proofs.ProofFormItems.{items_on, items_more, items_fit, items_stop, items_end}
 use Rattle.proof_form.proofs.rules.items.Goals as goal
 

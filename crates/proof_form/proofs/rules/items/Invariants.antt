@@ -1,7 +1,7 @@
 use Rattle.std.proofs.Common.{◌≡◌, ◌++◌, Some, length}
 use Rattle.read_rules.specs.Binding.{◌>>=◌}
 use Rattle.proof_form.specs.ProofForm.{items, AreBits}
-use Rattle.proof_form.specs.ProofFormReaders.{left}
+use Rattle.proof_words.specs.ProofFormReaders.{left}
 use Rattle.proof_form.proofs.rules.items.Given as goal
 
 -- those so far, and then those of the rest

@@ -93,7 +93,7 @@ the_version k z = kept (λ n. n == 1) (number_of k z)
 -- ---- which names are free to be chosen
 
 -- the words that the grammar of proof files quotes, and `T`
-abbrev pub quoted : List Text
+unfoldable pub quoted : List Text
 quoted = codes "islaris_proof" ∷ codes "device" ∷ codes "range" ∷ codes "states" ∷ codes "read" ∷ codes "write" ∷ codes "when" ∷ codes "to"
     ∷ codes "spec" ∷ codes "fix" ∷ codes "assume" ∷ codes "given" ∷ codes "code" ∷ codes "exit" ∷ codes "block" ∷ codes "exists"
     ∷ codes "array" ∷ codes "at" ∷ codes "fact" ∷ codes "reg" ∷ codes "mem" ∷ codes "arr" ∷ codes "dev" ∷ codes "steps"
@@ -106,7 +106,7 @@ begins_with_underscore [] = false
 begins_with_underscore (b ∷ z) = b == 95
 
 -- a name that a specification, an exit or a block may have: none that is quoted, and none that begins with `_`
-abbrev pub is_free : Text → Bool
+unfoldable pub is_free : Text → Bool
 is_free z = not (begins_with_underscore z) && not (list_any (bytes_eq z) quoted)
 
 -- such a name

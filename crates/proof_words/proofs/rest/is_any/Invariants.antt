@@ -1,6 +1,6 @@
 use Rattle.std.proofs.Common.{◌≡◌, drop, bytes_eq}
 use Rattle.std.specs.List.{list_any}
-use Rattle.proof_form.proofs.rest.is_any.Given as goal
+use Rattle.proof_words.proofs.rest.is_any.Given as goal
 
 -- none of those before it is the name
 abbrev pub invariant-loop-word : goal.invariant-loop-word

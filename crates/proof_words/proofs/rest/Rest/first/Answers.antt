@@ -1,6 +1,6 @@
 use Rattle.lex_core.specs.Forms.{IsTokenOf}
-use Rattle.proof_form.proofs.ProofFormLemmas.{behind_first}
-use Rattle.proof_form.proofs.rest.Rest.first.Goals as goal
+use Rattle.proof_words.proofs.ProofFormLemmas.{behind_first}
+use Rattle.proof_words.proofs.rest.Rest.first.Goals as goal
 
 pub invariant_of-result : goal.invariant_of-result
 invariant_of-result c =

@@ -1,11 +1,9 @@
 -- What the readers of the code give, in terms of the rules.
 use Rattle.std.specs.Prelude.{◌≡◌, List, Option, Some, None, Result, Ok, Err}
-use Rattle.proof_form.specs.declared.rest.Stop.{Stop}
-use Rattle.proof_form.specs.declared.rest.Stop.TheVariants as stop
-use Rattle.proof_form.specs.declared.rest.Rest.{Rest}
-use Rattle.proof_form.specs.declared.rules.Point.{Point}
-use Rattle.proof_form.specs.ProofForm as spec
-use Rattle.proof_form.specs.ProofFormWords.{Lexeme, lexemes}
+use Rattle.proof_words.specs.declared.rest.Stop.{Stop}
+use Rattle.proof_words.specs.declared.rest.Stop.TheVariants as stop
+use Rattle.proof_words.specs.declared.rest.Rest.{Rest}
+use Rattle.proof_words.specs.ProofFormWords.{Lexeme, lexemes}
 
 -- the lexemes that are left
 abbrev pub left : Rest → List Lexeme
@@ -16,7 +14,3 @@ abbrev pub Gives : {X Y : Type 0} → (X → Y) → Result X Stop → Option Y �
 Gives view (Ok x) reading = reading ≡ Some (view x)
 Gives view (Err stop.Outside) reading = reading ≡ None
 Gives view (Err stop.NoMemory) reading = Unit {0}
-
--- an exit or a block of the code
-abbrev pub point_of : Point → spec.Point
-point_of p = record { name = p.name; at = p.at; values = p.values }

@@ -5,8 +5,8 @@ ghost use Rattle.std.specs.List.{list_any, position_from};
 ghost use Rattle.bv_bits.specs.Bits.{IsBits};
 ghost use Rattle.std.specs.Option.{option_copied, option_map};
 ghost use Rattle.lex_core.specs.Forms.{IsTokenOf, bytes_of};
-ghost use Rattle.proof_form.specs.ProofFormWords as words;
-ghost use Rattle.proof_form.specs.ProofFormWords.{lexeme, lexemes, is_close};
+ghost use Rattle.proof_words.specs.ProofFormWords as words;
+ghost use Rattle.proof_words.specs.ProofFormWords.{lexeme, lexemes, is_close};
 
 use bv_bits::Bits;
 use lex_core::{Kind, NoMemory, Token};
@@ -23,7 +23,7 @@ pub enum Stop {
 
 impl From<NoMemory> for Stop {
     ghost use Rattle.std.specs.Prelude.{◌≡◌};
-    ghost use Rattle.proof_form.specs.declared.rest.Stop.TheVariants as stop;
+    ghost use Rattle.proof_words.specs.declared.rest.Stop.TheVariants as stop;
 
     ghost from_gives = { λ _ e. e ≡ stop.NoMemory };
 
@@ -34,7 +34,7 @@ impl From<NoMemory> for Stop {
 
 impl From<AllocError> for Stop {
     ghost use Rattle.std.specs.Prelude.{◌≡◌};
-    ghost use Rattle.proof_form.specs.declared.rest.Stop.TheVariants as stop;
+    ghost use Rattle.proof_words.specs.declared.rest.Stop.TheVariants as stop;
 
     ghost from_gives = { λ _ e. e ≡ stop.NoMemory };
 
@@ -164,6 +164,7 @@ fn is_any(name: &[u8], words: &[&[u8]]) -> bool
 }
 
 /// Whether a specification, an exit or a block may have this name.
+#[tactic(auto, unfolding(crate::specs::ProofFormWords::is_free, crate::specs::ProofFormWords::quoted))]
 fn is_free(name: &[u8]) -> bool
     ensures { result ≡ words.is_free name.now }
 {
@@ -196,12 +197,21 @@ pub struct Rest<'a> {
 }
 
 impl<'a> Rest<'a> {
-    ghost use Rattle.std.specs.Prelude.{◌≡◌, IfOk};
+    ghost use Rattle.std.specs.Prelude.{◌≡◌, All, IfOk};
     ghost use Rattle.bv_bits.specs.Bits.{IsBits};
     ghost use Rattle.lex_core.specs.Forms.{IsTokenOf};
-    ghost use Rattle.proof_form.specs.ProofFormWords as words;
-    ghost use Rattle.proof_form.specs.ProofForm as spec;
-    ghost use Rattle.proof_form.specs.ProofFormReaders.{Gives, left};
+    ghost use Rattle.proof_words.specs.ProofFormWords as words;
+    ghost use Rattle.proof_words.specs.ProofFormTaking as spec;
+    ghost use Rattle.proof_words.specs.ProofFormReaders.{Gives, left};
+
+    /// All tokens of a text.
+    pub fn new(text: &'a [u8], tokens: &'a [Token]) -> Rest<'a>
+        requires { All (IsTokenOf text.now) tokens.now }
+        ensures text { result.text.now ≡ text.now }
+        ensures tokens { result.tokens.now ≡ tokens.now }
+    {
+        Rest { text, tokens }
+    }
 
     /// The first token, and the others.
     #[tactic(auto, using(crate::proofs::ProofFormLemmas::behind_first))]
@@ -219,6 +229,7 @@ impl<'a> Rest<'a> {
     }
 
     /// A name.
+    #[tactic(auto, unfolding(crate::specs::ProofFormTaking::one))]
     pub fn name(self) -> Result<(&'a [u8], Rest<'a>), Stop>
         ensures { Gives (λ x. (x.0.now, left x.1)) result (spec.one words.name_of (left self.entry)) }
     {
@@ -230,6 +241,7 @@ impl<'a> Rest<'a> {
     }
 
     /// A name that a specification, an exit or a block may have.
+    #[tactic(auto, unfolding(crate::specs::ProofFormTaking::one))]
     pub fn free_name(self) -> Result<(&'a [u8], Rest<'a>), Stop>
         ensures { Gives (λ x. (x.0.now, left x.1)) result (spec.one words.free_name_of (left self.entry)) }
     {
@@ -242,6 +254,7 @@ impl<'a> Rest<'a> {
     }
 
     /// Passes over the name of these bytes.
+    #[tactic(auto, unfolding(crate::specs::ProofFormTaking::one, crate::specs::ProofFormTaking::over))]
     pub fn word(self, word: &[u8]) -> Result<Rest<'a>, Stop>
         ensures { Gives left result (spec.word word.now (left self.entry)) }
     {
@@ -254,6 +267,7 @@ impl<'a> Rest<'a> {
     }
 
     /// Passes over the mark of these bytes.
+    #[tactic(auto, unfolding(crate::specs::ProofFormTaking::one, crate::specs::ProofFormTaking::over))]
     pub fn mark(self, own: &[u8]) -> Result<Rest<'a>, Stop>
         ensures { Gives left result (spec.mark own.now (left self.entry)) }
     {
@@ -265,6 +279,7 @@ impl<'a> Rest<'a> {
     }
 
     /// Passes over the version, 1.
+    #[tactic(auto, unfolding(crate::specs::ProofFormTaking::one, crate::specs::ProofFormTaking::over))]
     pub fn version(self) -> Result<Rest<'a>, Stop>
         ensures { Gives left result (spec.over words.the_version (left self.entry)) }
     {
@@ -276,6 +291,7 @@ impl<'a> Rest<'a> {
     }
 
     /// A literal.
+    #[tactic(auto, unfolding(crate::specs::ProofFormTaking::one))]
     pub fn literal(self) -> Result<(Bits, Rest<'a>), Stop>
         ensures exact { Gives (λ x. (x.0, left x.1)) result (spec.one words.literal_of (left self.entry)) }
         ensures fits { IfOk result (λ x. IsBits x.0) }
@@ -288,7 +304,7 @@ impl<'a> Rest<'a> {
     }
 
     /// An address.
-    #[tactic(auto, using(crate::proofs::ProofFormLemmas::narrow))]
+    #[tactic(auto, using(crate::proofs::ProofFormLemmas::narrow), unfolding(crate::specs::ProofFormTaking::one))]
     pub fn address(self) -> Result<(u64, Rest<'a>), Stop>
         ensures { Gives (λ x. (x.0, left x.1)) result (spec.one words.address_of (left self.entry)) }
     {
@@ -300,7 +316,7 @@ impl<'a> Rest<'a> {
     }
 
     /// An address in full.
-    #[tactic(auto, using(crate::proofs::ProofFormLemmas::narrow))]
+    #[tactic(auto, using(crate::proofs::ProofFormLemmas::narrow), unfolding(crate::specs::ProofFormTaking::one))]
     pub fn full_address(self) -> Result<(u64, Rest<'a>), Stop>
         ensures { Gives (λ x. (x.0, left x.1)) result (spec.one words.full_address_of (left self.entry)) }
     {
@@ -312,7 +328,7 @@ impl<'a> Rest<'a> {
     }
 
     /// What stands before the first `}`, and what stands behind it.
-    #[tactic(auto, unfolding(crate::specs::ProofForm::up_to_close))]
+    #[tactic(auto, unfolding(crate::specs::ProofFormTaking::up_to_close))]
     pub fn up_to_close(self) -> Result<(Rest<'a>, Rest<'a>), Stop>
         ensures { Gives (λ x. (left x.0, left x.1)) result (spec.up_to_close (left self.entry)) }
     {

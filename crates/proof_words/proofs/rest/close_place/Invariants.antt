@@ -1,7 +1,7 @@
 use Rattle.std.proofs.Common.{◌≡◌, drop}
 use Rattle.std.specs.List.{position_from}
-use Rattle.proof_form.specs.ProofFormWords.{lexemes, is_close}
-use Rattle.proof_form.proofs.rest.close_place.Given as goal
+use Rattle.proof_words.specs.ProofFormWords.{lexemes, is_close}
+use Rattle.proof_words.proofs.rest.close_place.Given as goal
 
 -- none of those before it is `}`
 abbrev pub invariant-loop-place : goal.invariant-loop-place

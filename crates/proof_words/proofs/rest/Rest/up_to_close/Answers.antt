@@ -1,6 +1,6 @@
 use Rattle.std.proofs.Common.{sym, ◌∙◌}
-use Rattle.proof_form.proofs.ProofFormLemmas.{closes}
-use Rattle.proof_form.proofs.rest.Rest.up_to_close.Goals as goal
+use Rattle.proof_words.proofs.ProofFormLemmas.{closes}
+use Rattle.proof_words.proofs.rest.Rest.up_to_close.Goals as goal
 
 pub returns-in-Some : goal.returns-in-Some
 returns-in-Some c =

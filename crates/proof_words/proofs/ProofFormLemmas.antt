@@ -1,5 +1,5 @@
 -- What the readers' proofs share.
-use Rattle.std.proofs.Common.{◌≡◌, ℕ, ◌≤◌, ◌<◌, ◌^◌, ◌+◌, List, All, Some, Err, Ok, ◌≢◌, take, drop, refl, ap, arith}
+use Rattle.std.proofs.Common.{◌≡◌, ℕ, ◌≤◌, ◌<◌, ◌^◌, ◌+◌, List, All, Some, take, drop, refl, arith}
 use Rattle.std.specs.List.{position_from}
 use Rattle.std.proofs.lemmas.List.{take-map, drop-map}
 use Rattle.std.proofs.Math.Nat.{pow-le-pow_right}
@@ -7,13 +7,9 @@ use Rattle.std.proofs.lemmas.List.Elements.{All-drop, All-take}
 use Rattle.bv_bits.specs.declared.Bits.{Bits}
 use Rattle.bv_bits.specs.Bits.{IsBits}
 use Rattle.lex_core.specs.declared.token.Token.{Token}
-use Rattle.lex_core.specs.declared.token.LexFault.{LexFault}
-use Rattle.lex_core.specs.declared.token.LexFault.TheVariants as fault
 use Rattle.lex_core.specs.Classes.{Text}
-use Rattle.lex_core.specs.Lexing.{Gives, cut}
-use Rattle.proof_form.specs.ProofFormWords.{lexeme, lexemes, is_close}
-use Rattle.proof_form.specs.ProofForm.{up_to_close, proof_form, of_cutting, of_tokens}
-use Rattle.proof_form.specs.declared.form.ReadProof.TheVariants as read
+use Rattle.proof_words.specs.ProofFormWords.{lexeme, lexemes, is_close}
+use Rattle.proof_words.specs.ProofFormTaking.{up_to_close}
 
 -- bits in at most 64 are a number below 2 ^ 64
 pub narrow : (b : Bits) → IsBits b → b.width ≤ 64 → b.value < 2 ^ 64
@@ -31,17 +27,3 @@ pub closes : (text : Text) (ts before behind : List Token) (place : ℕ) → pos
 unfolding up_to_close
 closes text ts before behind place found b d =
     rw (found, b, d, take-map (lexeme text) place ts, drop-map (lexeme text) (place + 1) ts) refl
-
--- a text that can't be cut is outside the form
-pub outside_at_fault : (text : Text) (f : LexFault) → f ≢ fault.NoMemory → Gives (Err f) (cut text) → proof_form text ≡ read.Outside
-unfolding proof_form
-outside_at_fault text (fault.BadByte at) not h = ap (of_cutting text) h
-outside_at_fault text (fault.OpenComment at) not h = ap (of_cutting text) h
-outside_at_fault text (fault.OpenText at) not h = ap (of_cutting text) h
-outside_at_fault text (fault.TooWide at) not h = ap (of_cutting text) h
-outside_at_fault text fault.NoMemory not h = absurd (not refl)
-
--- a text that can be cut is what its tokens are
-pub from_tokens : (text : Text) (ts : List Token) → cut text ≡ Ok ts → proof_form text ≡ of_tokens text ts
-unfolding proof_form
-from_tokens text ts h = ap (of_cutting text) h

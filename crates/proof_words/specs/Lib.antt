@@ -1,0 +1,3 @@
+pub mod ProofFormReaders
+pub mod ProofFormTaking
+pub mod ProofFormWords
