@@ -30,10 +30,10 @@ use Rattle.constants_run.specs.declared.conditions.ConstantsData.{ConstantsData}
 use Rattle.constants_run.specs.declared.run_form.RunEnd.{RunEnd}
 use Rattle.constants_run.specs.declared.run_form.RunEnd.TheVariants as run_end
 use Rattle.lex_core.specs.Classes.{Text}
-use Rattle.sail_form.specs.SailForm.{sail_form, says}
-use Rattle.sail_form.specs.SailForm as form
-use Rattle.sail_form.specs.SailFormWords.{words}
-use Rattle.sail_form.specs.SailFormSyntax.{program}
+use Rattle.sail_rules.specs.SailForm.{sail_form, says}
+use Rattle.sail_rules.specs.SailForm as form
+use Rattle.sail_words.specs.SailFormWords.{words}
+use Rattle.sail_rules.specs.SailFormSyntax.{program}
 use Rattle.sail_form.specs.SailFormHolds.{FunctionFits, none, one}
 use Rattle.proof_form.specs.ProofForm.{proof_form}
 use Rattle.constants_run.specs.RegisterPlaces.{has, places, pair_of}

@@ -20,7 +20,7 @@ use Rattle.proof_form.specs.ProofForm.{proof_form}
 use Rattle.constants_run.specs.declared.run_form.RunEnd.{RunEnd}
 use Rattle.constants_run.specs.declared.run_form.RunEnd.TheVariants as run_end
 use Rattle.constants_run.specs.RunForm.{run_end_of}
-use Rattle.sail_form.specs.SailForm.{sail_form}
+use Rattle.sail_rules.specs.SailForm.{sail_form}
 use Rattle.constants_check.specs.Verdict.{no_function, no_image, on_end, constants_for, on_constants, on_proof, on_image, on_program, verdict}
 
 -- neither words that are no command, nor a file that is missing or can't be read

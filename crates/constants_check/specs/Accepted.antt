@@ -9,7 +9,7 @@ use Rattle.machine_core.specs.First.{Constants, spec_of, no_transitions, no_vari
 use Rattle.lex_core.specs.Classes.{Text}
 use Rattle.proof_form.specs.declared.form.NamedProof.{NamedProof}
 use Rattle.proof_form.specs.declared.form.ReadProof.TheVariants as read
-use Rattle.sail_form.specs.SailForm.{sail_form}
+use Rattle.sail_rules.specs.SailForm.{sail_form}
 use Rattle.proof_form.specs.ProofForm.{proof_form}
 use Rattle.constants_check.specs.Verdict.{constants_for, report_of}
 

@@ -21,7 +21,7 @@ use Rattle.proof_form.specs.declared.form.ReadProof.{ReadProof}
 use Rattle.proof_form.specs.declared.form.ReadProof.TheVariants as read
 use Rattle.constants_run.specs.declared.run_form.RunEnd.{RunEnd}
 use Rattle.constants_run.specs.declared.run_form.RunEnd.TheVariants as run_end
-use Rattle.sail_form.specs.SailForm.{sail_form}
+use Rattle.sail_rules.specs.SailForm.{sail_form}
 use Rattle.read_rules.specs.Binding.{◌>>=◌}
 use Rattle.proof_form.specs.ProofForm.{proof_form}
 use Rattle.constants_run.specs.RegisterPlaces.{places}

@@ -11,7 +11,7 @@ ghost use Rattle.machine_core.specs.Program.{machine_of};
 ghost use Rattle.proof_form.specs.declared.form.NamedProof.{NamedProof};
 ghost use Rattle.constants_check.specs.Accepted.{IsAccepted};
 ghost use Rattle.constants_run.specs.RunForm.{entry_state};
-ghost use Rattle.sail_form.specs.SailForm.{sail_form};
+ghost use Rattle.sail_rules.specs.SailForm.{sail_form};
 ghost use Rattle.lex_core.specs.Classes.{Text};
 ghost use Rattle.constants_check.specs.Verdict.{constants_for, verdict};
 ghost use Rattle.report_text.specs.Outcome.{accept};

@@ -1,13 +1,2 @@
-pub mod SailFormAfter
-pub mod SailFormAll
-pub mod SailFormAllRead
-pub mod SailFormApart
-pub mod SailFormBehind
-pub mod SailFormComplete
-pub mod SailFormCut
-pub mod SailFormFine
 pub mod SailFormHolding
-pub mod SailFormLaws
-pub mod SailFormShrinks
-pub mod SailFormSound
 pub mod SailFormWhole

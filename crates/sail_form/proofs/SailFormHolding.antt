@@ -13,14 +13,14 @@ use Rattle.sail_syntax.specs.Program.{Definition, Function, registers_of, functi
 use Rattle.sail_syntax.specs.View.{program_of, trees, cases_of, steps_of}
 use Rattle.sail_types.specs.Typing.{HasWidths, is_pc, is_instr, instr_name}
 use Rattle.sail_eval.specs.Quiet.{IsQuietProgram, is_quiet, are_quiet, are_quiet_arms, are_quiet_steps, is_quiet_definition}
-use Rattle.sail_form.specs.declared.words.Word.{Word}
-use Rattle.sail_form.specs.SailForm.{order_words, register, register_names, ending, sail}
+use Rattle.sail_words.specs.declared.word.Word.{Word}
+use Rattle.sail_rules.specs.SailForm.{order_words, register, register_names, ending, sail}
 use Rattle.sail_form.specs.SailFormHolds.{IsWide, RegistersFit, FunctionFits, none, one}
-use Rattle.sail_form.specs.SailFormNames.{names_of, are_names, is_pc_first, are_free}
-use Rattle.sail_form.specs.SailFormReading.{Reading, maybe, behind_or_all, many_from, many, all}
-use Rattle.sail_form.specs.SailFormSyntax.{Operand, named, literal, Assignment, Arm, Register, Instr, Sail, operand_tree, total, step, arm_case, register_definition, order_definitions, instr_definitions, program}
-use Rattle.sail_form.proofs.SailFormBehind.{after-length}
-use Rattle.sail_form.specs.SailFormSpelled.{Spelled, after}
+use Rattle.sail_words.specs.SailFormNames.{names_of, are_names, is_pc_first, are_free}
+use Rattle.sail_words.specs.SailFormReading.{Reading, maybe, behind_or_all, many_from, many, all}
+use Rattle.sail_rules.specs.SailFormSyntax.{Operand, named, literal, Assignment, Arm, Register, Instr, Sail, operand_tree, total, step, arm_case, register_definition, order_definitions, instr_definitions, program}
+use Rattle.sail_words.proofs.SailFormBehind.{after-length}
+use Rattle.sail_words.specs.SailFormSpelled.{Spelled, after}
 use Rattle.std.proofs.lemmas.Option.{same_Some}
 use Rattle.std.proofs.lemmas.Bool.{and_parts}
 use Rattle.read_rules.proofs.SmallLemmas.{mapped}

@@ -6,11 +6,11 @@ use Rattle.lex_core.specs.declared.name.RegDecl.{RegDecl}
 use Rattle.sail_syntax.specs.declared.definitions.Def.{Def}
 use Rattle.sail_syntax.specs.Program.{Definition, registers_of}
 use Rattle.sail_syntax.specs.View.{definition_of}
-use Rattle.sail_form.specs.declared.words.Word.{Word}
-use Rattle.sail_form.specs.SailForm.{order_words, register, register_names, ending, sail}
-use Rattle.sail_form.specs.SailFormNames.{names_of, are_names}
-use Rattle.sail_form.specs.SailFormReading.{maybe, all, each}
-use Rattle.sail_form.specs.SailFormSyntax.{Register, Instr, register_definition, order_definitions, instr_definition, instr_definitions, program}
+use Rattle.sail_words.specs.declared.word.Word.{Word}
+use Rattle.sail_rules.specs.SailForm.{order_words, register, register_names, ending, sail}
+use Rattle.sail_words.specs.SailFormNames.{names_of, are_names}
+use Rattle.sail_words.specs.SailFormReading.{maybe, all, each}
+use Rattle.sail_rules.specs.SailFormSyntax.{Register, Instr, register_definition, order_definitions, instr_definition, instr_definitions, program}
 use Rattle.std.proofs.lemmas.Option.{same_Some}
 
 -- the registers that the words have

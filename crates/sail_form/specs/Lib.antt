@@ -1,9 +1,1 @@
-pub mod SailForm
-pub mod SailFormFixed
 pub mod SailFormHolds
-pub mod SailFormNames
-pub mod SailFormReading
-pub mod SailFormSpelled
-pub mod SailFormSpelling
-pub mod SailFormSyntax
-pub mod SailFormWords

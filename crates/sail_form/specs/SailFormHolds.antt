@@ -4,7 +4,7 @@ use Rattle.lex_core.specs.declared.name.RegDecl.{RegDecl}
 use Rattle.sail_syntax.specs.declared.types.Ty.TheVariants as ty
 use Rattle.sail_syntax.specs.Program.{Definition, Function, registers_of, functions_of}
 use Rattle.sail_types.specs.Typing.{has_instr, pc_number}
-use Rattle.sail_form.specs.SailFormNames.{names_of, is_pc_first, are_free}
+use Rattle.sail_words.specs.SailFormNames.{names_of, is_pc_first, are_free}
 
 -- the register has 64 bits
 abbrev pub IsWide : RegDecl → Type 0

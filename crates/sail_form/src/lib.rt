@@ -1,12 +1,8 @@
 //! The first Sail form: a program counter, registers of 64 bits, and one function whose arms assign sums.
 #![tactic(auto)]
 
-mod body;
-mod fixed;
-pub mod laws;
-mod names;
+mod function;
 mod program;
-mod reader;
-mod words;
+mod registers;
 
 pub use program::read_sail;

@@ -6,93 +6,42 @@ ghost use Rattle.sail_eval.specs.Quiet.{IsQuietProgram};
 ghost use Rattle.sail_types.specs.Typing.{HasWidths, IsCountable};
 ghost use Rattle.sail_syntax.specs.Program.{registers_of};
 ghost use Rattle.sail_syntax.specs.View.{definition_of, program_of};
-ghost use Rattle.sail_form.specs.SailForm as spec;
-ghost use Rattle.sail_form.specs.SailForm.{order_words, sail_form};
 ghost use Rattle.sail_form.specs.SailFormHolds.{FunctionFits, RegistersFit};
-ghost use Rattle.sail_form.specs.SailFormNames.{names_of};
-ghost use Rattle.sail_form.specs.SailFormReading.{Reads, all, each, maybe, turned};
-ghost use Rattle.sail_form.specs.SailFormSyntax.{instr_definition, order_definitions, program, register_definition};
+ghost use Rattle.sail_rules.specs.SailForm as spec;
+ghost use Rattle.sail_rules.specs.SailForm.{sail_form};
+ghost use Rattle.sail_rules.specs.SailFormSyntax.{instr_definition, program};
+ghost use Rattle.sail_words.specs.SailFormNames.{names_of};
 
-use crate::fixed::{OF_64_BITS, ORDER, REGISTER};
-use crate::names::are_names;
-use crate::reader::Reader;
-use crate::words::{Word, words};
+use crate::function::function;
+use crate::registers::{definitions, order};
 use lex_core::{NoMemory, RegDecl};
 use sail_syntax::{Def, Program, registers};
+use sail_words::{Reader, Word, are_names, words};
 use sqlite_items::Items;
 use std::alloc::Global;
 
-impl<'a> Reader<'a> {
-    /// Takes a register.
-    #[tactic(auto, unfolding(crate::specs::SailForm::register))]
-    fn register(&mut self, alloc: Global) -> Result<Option<Def>, NoMemory>
-        ensures { IfOk result (λ d. Reads (turned register_definition (spec.register self.old.rest.now))
-            (option_map definition_of d) self.new.rest.now) }
-    {
-        let at = self.place();
-        if !self.takes_one(REGISTER) {
-            return Ok(None);
-        }
-        let Some(name) = self.name(alloc)? else {
-            return Ok(None);
-        };
-        if !self.takes(&OF_64_BITS) {
-            return Ok(None);
-        }
-        let width = 64;
-        Ok(Some(Def::Register { name, width, at }))
+/// Takes the function to the end, or nothing at the end.
+fn ending(
+    reader: &mut Reader<'_>,
+    alloc: Global,
+    registers: &[RegDecl],
+) -> Result<Option<Option<Def>>, NoMemory>
+    ensures { IfOk result (λ d. option_map (option_map definition_of) d
+        ≡ option_map (option_map instr_definition) (spec.ending (names_of registers.now) reader.old.rest.now)) }
+{
+    if let [] = reader.rest {
+        return Ok(Some(None));
     }
-
-    /// Takes registers, as often as they stand there.
-    fn registers(&mut self, alloc: Global) -> Result<Items<Def>, NoMemory>
-        ensures { IfOk result (λ ds. (map definition_of ds, self.new.rest.now)
-            ≡ each register_definition (all spec.register self.old.rest.now)) }
-    {
-        let mut all = Items::new(alloc);
-        let mut rest = self.rest;
-        while let Some(register) = self.register(alloc)? {
-            all.push(register)?;
-            rest = self.rest;
-        }
-        self.rest = rest;
-        Ok(all)
+    if let [] = registers {
+        return Ok(None);
     }
-
-    /// Takes the order of bits, if it is written.
-    fn order(&mut self, alloc: Global) -> Result<Items<Def>, NoMemory>
-        ensures defs { IfOk result (λ ds. map definition_of ds ≡ order_definitions (maybe order_words self.old.rest.now).0) }
-        ensures rest { IfOk result (λ _. self.new.rest.now ≡ (maybe order_words self.old.rest.now).1) }
-    {
-        let mut defs = Items::new(alloc);
-        if self.maybe(&ORDER) {
-            defs.push(Def::Order)?;
-        }
-        Ok(defs)
+    let Some(function) = function(reader, alloc, registers)? else {
+        return Ok(None);
+    };
+    if let [_, ..] = reader.rest {
+        return Ok(None);
     }
-
-    /// Takes the function to the end, or nothing at the end.
-    fn ending(
-        &mut self,
-        alloc: Global,
-        registers: &[RegDecl],
-    ) -> Result<Option<Option<Def>>, NoMemory>
-        ensures { IfOk result (λ d. option_map (option_map definition_of) d
-            ≡ option_map (option_map instr_definition) (spec.ending (names_of registers.now) self.old.rest.now)) }
-    {
-        if let [] = self.rest {
-            return Ok(Some(None));
-        }
-        if let [] = registers {
-            return Ok(None);
-        }
-        let Some(function) = self.function(alloc, registers)? else {
-            return Ok(None);
-        };
-        if let [_, ..] = self.rest {
-            return Ok(None);
-        }
-        Ok(Some(Some(function)))
-    }
+    Ok(Some(Some(function)))
 }
 
 /// The program with the function, if there is one, at the end.
@@ -118,19 +67,19 @@ fn of_words(alloc: Global, words: &[Word]) -> Result<Option<Program>, NoMemory>
 }
 
 /// The whole of the words, as a program.
-#[tactic(auto, unfolding(crate::specs::SailForm::sail))]
+#[tactic(auto, unfolding(sail_rules::specs::SailForm::sail))]
 fn whole(alloc: Global, words: &[Word]) -> Result<Option<Program>, NoMemory>
     ensures { IfOk result (λ p. option_map program_of p ≡ option_map program (spec.sail words.now)) }
 {
     let mut reader = Reader { rest: words };
-    let mut defs = reader.order(alloc)?;
-    defs.append(reader.registers(alloc)?)?;
+    let mut defs = order(&mut reader, alloc)?;
+    defs.append(definitions(&mut reader, alloc)?)?;
     let program = Program { defs };
     let registers = registers(alloc, &program)?;
     if !are_names(registers.as_slice()) {
         return Ok(None);
     }
-    let Some(function) = reader.ending(alloc, registers.as_slice())? else {
+    let Some(function) = ending(&mut reader, alloc, registers.as_slice())? else {
         return Ok(None);
     };
     Ok(Some(ended(program.defs, function)?))
@@ -148,7 +97,7 @@ fn whole(alloc: Global, words: &[Word]) -> Result<Option<Program>, NoMemory>
 ///
 /// `NoMemory` comes for want of memory alone. The time is linear in the text, but for the names, which are looked up
 /// among the registers.
-#[tactic(auto, unfolding(crate::specs::SailForm::sail_form, crate::specs::SailForm::says))]
+#[tactic(auto, unfolding(sail_rules::specs::SailForm::sail_form, sail_rules::specs::SailForm::says))]
 pub fn read_sail(alloc: Global, text: &[u8]) -> Result<Option<Program>, NoMemory>
     // Which program it is.
     ensures exact { IfOk result (λ p. option_map program_of p ≡ sail_form text.now) }

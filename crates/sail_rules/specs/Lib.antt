@@ -1,0 +1,3 @@
+pub mod SailForm
+pub mod SailFormSpelling
+pub mod SailFormSyntax

@@ -1,0 +1,5 @@
+pub mod SailFormAfter
+pub mod SailFormAll
+pub mod SailFormApart
+pub mod SailFormBehind
+pub mod SailFormCut

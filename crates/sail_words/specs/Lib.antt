@@ -1,0 +1,5 @@
+pub mod SailFormFixed
+pub mod SailFormNames
+pub mod SailFormReading
+pub mod SailFormSpelled
+pub mod SailFormWords
