@@ -18,36 +18,53 @@ use std::alloc::Global;
 use std::io;
 use writes::writes;
 
+/// Reads from files in memory of which some reads fail.
+fn faulty(alloc: Global, failing: &str, files: &[&str], asked: &str) -> Result<String, NoMemory> {
+    let files = files_of(alloc, files)?;
+    let mut files = MemFiles::new(files, numbers_of(alloc, failing)?)?;
+    reads(alloc, &mut files, asked)
+}
+
+/// Reads from files in memory whose reads don't fail.
+fn honest(alloc: Global, files: &[&str], asked: &str) -> Result<String, NoMemory> {
+    let mut files = HonestFiles::new(files_of(alloc, files)?)?;
+    reads(alloc, &mut files, asked)
+}
+
 /// Reads from files that are held in memory.
 fn held(alloc: Global, words: &[&str], asked: &str) -> Result<String, NoMemory> {
     match words {
-        [what, failing, files @ ..] if *what == "faulty" => {
-            let mut files = MemFiles::new(files_of(alloc, files)?, numbers_of(alloc, failing)?)?;
-            reads(alloc, &mut files, asked)
-        }
-        [what, files @ ..] if *what == "honest" => {
-            let mut files = HonestFiles::new(files_of(alloc, files)?)?;
-            reads(alloc, &mut files, asked)
-        }
+        ["faulty", failing, files @ ..] => faulty(alloc, failing, files, asked),
+        ["honest", files @ ..] => honest(alloc, files, asked),
         _ => Ok(String::from_str(alloc, "no such case")?),
     }
+}
+
+/// What was told, and the bytes that were kept.
+fn with_bytes(alloc: Global, told: &str, bytes: &[u8]) -> Result<String, NoMemory> {
+    let bytes = case_lines::spelled(alloc, bytes)?;
+    Ok(format!(in alloc; "{told}| {bytes}")?)
+}
+
+/// Writes to a sink in memory of which some writes fail.
+fn narrow(alloc: Global, most: &str, failing: &str, asked: &str) -> Result<String, NoMemory> {
+    let mut sink = MemSink::new(alloc, most_of(most), numbers_of(alloc, failing)?)?;
+    let told = writes(alloc, &mut sink, asked)?;
+    with_bytes(alloc, told.as_str(), sink.bytes())
+}
+
+/// Writes to a sink in memory that keeps all.
+fn whole(alloc: Global, asked: &str) -> Result<String, NoMemory> {
+    let mut sink = WholeSink::new(alloc)?;
+    let told = writes(alloc, &mut sink, asked)?;
+    with_bytes(alloc, told.as_str(), sink.bytes())
 }
 
 /// Writes to a sink that is held in memory.
 fn kept(alloc: Global, words: &[&str], asked: &str) -> Result<String, NoMemory> {
     match words {
-        [what, most, failing] if *what == "narrow" => {
-            let mut sink = MemSink::new(alloc, most_of(most), numbers_of(alloc, failing)?)?;
-            let told = writes(alloc, &mut sink, asked)?;
-            let bytes = case_lines::spelled(alloc, sink.bytes())?;
-            Ok(format!(in alloc; "{told}| {bytes}")?)
-        }
-        [what] if *what == "whole" => {
-            let mut sink = WholeSink::new(alloc)?;
-            let told = writes(alloc, &mut sink, asked)?;
-            let bytes = case_lines::spelled(alloc, sink.bytes())?;
-            Ok(format!(in alloc; "{told}| {bytes}")?)
-        }
+        ["narrow", most, failing] => narrow(alloc, most, failing, asked),
+        ["whole"] => whole(alloc, asked),
         _ => held(alloc, words, asked),
     }
 }
@@ -64,24 +81,31 @@ fn case<F: Files>(alloc: Global, host: &mut F, line: &str) -> Result<String, NoM
     kept(alloc, words.as_slice(), asked)
 }
 
+/// What the line comes to, where `out` writes to standard output.
+fn told<F: Files>(rt: &HostRuntime, host: &mut F, line: &str) -> Result<String, NoMemory> {
+    match line.strip_prefix("out : ") {
+        Some(asked) => writes(rt.alloc(), &mut HostSink::new(rt.stdout()), asked),
+        None => case(rt.alloc(), host, line),
+    }
+}
+
+/// Prints a line and what it comes to.
+fn tell<F: Files>(rt: &HostRuntime, host: &mut F, line: &str) -> io::Result<()> {
+    if is_comment(line) {
+        return println!(rt; "{line}");
+    }
+    match told(rt, host, line) {
+        Ok(told) => println!(rt; "{line} = {told}"),
+        Err(_) => println!(rt; "{line} = no memory"),
+    }
+}
+
 fn main(rt: HostRuntime) -> io::Result<()> {
     let alloc = rt.alloc();
     let mut host = HostFiles::new(alloc, &rt);
     for line in rt.lines(alloc) {
         let line = line?;
-        if is_comment(line.as_str()) {
-            println!(rt; "{line}")?;
-            continue;
-        }
-        let told = if let Some(asked) = line.as_str().strip_prefix("out : ") {
-            writes(alloc, &mut HostSink::new(rt.stdout()), asked)
-        } else {
-            case(alloc, &mut host, line.as_str())
-        };
-        match told {
-            Ok(told) => println!(rt; "{line} = {told}")?,
-            Err(_) => println!(rt; "{line} = no memory")?,
-        }
+        tell(&rt, &mut host, line.as_str())?;
     }
     Ok(())
 }
