@@ -5,6 +5,8 @@ ghost use Rattle.term_tree.specs.Terms.{lit, array, upd, splice, IsTyped, IsType
 ghost use Rattle.term_tree.specs.View.{tree, array_tree};
 ghost use Rattle.term_arena.specs.Answers.{id_term, id_array};
 
+use arena_make::select;
+use arena_trees::{intern, intern_array};
 use bv_bits::Bits;
 use lex_core::{Name, NoMemory};
 use sqlite_items::Boxed;
@@ -28,7 +30,7 @@ fn index(terms: &mut Terms, at: u32) -> Result<TermId, TermFault>
     ensures index { IfOk result (λ id. IsIndex (id_term terms.new id)) }
 {
     let term = index_term(at);
-    terms.intern(&term)
+    intern(terms, &term)
 }
 
 /// The array `mem` but for a byte at an index.
@@ -62,8 +64,8 @@ fn selected(terms: &mut Terms, array: &ArrayTerm, at: u32) -> Result<[u32; 3], T
     requires array { IsArrayTerm (array_tree array.now) }
 {
     let at = index(terms, at)?;
-    let of = terms.intern_array(array)?;
-    let byte = terms.select(of, at)?;
+    let of = intern_array(terms, array)?;
+    let byte = select(terms, of, at)?;
     let further = index(terms, 1_000_000)?;
     Ok([of.number, byte.number, further.number])
 }

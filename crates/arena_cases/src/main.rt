@@ -4,9 +4,13 @@
 #![tactic(auto)]
 
 mod arrays;
+mod replacing;
 mod terms;
 
 use crate::arrays::{joined, updated};
+use crate::replacing::{
+    byte_replaced, first_counts, shared, splice_replaced, swapped, update_replaced,
+};
 use crate::terms::{doubled_twice, literals, negated, stored};
 use std::alloc::{AllocError, Global};
 use std::io;
@@ -30,7 +34,38 @@ fn told(alloc: Global, command: &str, a: u32, b: u32) -> Result<[u32; 3], TermFa
         "update" => updated(alloc, &mut terms, a, b),
         "splice" => joined(alloc, &mut terms, a, b),
         "sum" => stored(alloc, &mut terms),
-        _ => literals(&mut terms, a),
+        _ => told_replaced(alloc, &mut terms, command, a),
+    }
+}
+
+/// What a command that replaces variables of a term comes to.
+fn told_replaced(
+    alloc: Global,
+    terms: &mut Terms,
+    command: &str,
+    a: u32,
+) -> Result<[u32; 3], TermFault> {
+    match command {
+        "swap" => swapped(alloc, terms),
+        "first_counts" => first_counts(alloc, terms),
+        "shared" => shared(alloc, terms, a),
+        _ => told_array(alloc, terms, command, a),
+    }
+}
+
+/// What a command that replaces array variables, or that interns literals, comes to.
+fn told_array(
+    alloc: Global,
+    terms: &mut Terms,
+    command: &str,
+    a: u32,
+) -> Result<[u32; 3], TermFault> {
+    match command {
+        "byte_of_update" => byte_replaced(alloc, terms, b"f", b"h"),
+        "byte_of_variable" => byte_replaced(alloc, terms, b"k", b"f"),
+        "in_update" => update_replaced(alloc, terms),
+        "in_splice" => splice_replaced(alloc, terms),
+        _ => literals(terms, a),
     }
 }
 

@@ -5,7 +5,10 @@ ghost use Rattle.bv_bits.specs.declared.Op.TheVariants.{Add};
 ghost use Rattle.term_tree.specs.Terms.{lit, var, two, IsTyped, IsTerm};
 ghost use Rattle.term_tree.specs.View.{tree};
 ghost use Rattle.term_arena.specs.Answers.{id_term};
+ghost use Rattle.arena_cases.specs.Widths.{IsWide};
 
+use arena_make::make;
+use arena_trees::intern;
 use bv_bits::{Bits, Op};
 use lex_core::{Name, NoMemory};
 use std::alloc::Global;
@@ -14,21 +17,21 @@ use term_tree::{Term, TermFault, list_of_two};
 
 /// The variable `x10` of 64 bits.
 fn variable(alloc: Global, terms: &mut Terms) -> Result<TermId, TermFault>
-    ensures term { IfOk result (λ id. IsTerm (id_term terms.new id)) }
+    ensures term { IfOk result (λ id. IsWide (id_term terms.new id)) }
 {
     let name = Name::of(alloc, b"x10")?;
     let term = Term::Var { name, width: 64 };
-    terms.intern(&term)
+    intern(terms, &term)
 }
 
 /// A term that is added to itself, so many times.
-fn doubled(terms: &mut Terms, term: TermId, times: u32) -> Result<TermId, TermFault>
-    requires term { IsTerm (id_term terms.old term) }
-    ensures term { IfOk result (λ id. IsTerm (id_term terms.new id)) }
+pub fn doubled(terms: &mut Terms, term: TermId, times: u32) -> Result<TermId, TermFault>
+    requires term { IsWide (id_term terms.old term) }
+    ensures term { IfOk result (λ id. IsWide (id_term terms.new id)) }
 {
     let mut sum = term;
     'doubling: for _ in 0..times {
-        sum = match terms.make(Op::Add, &[sum, sum]) {
+        sum = match make(terms, Op::Add, &[sum, sum]) {
             Ok(sum) => sum,
             Err(fault) => return Err(fault),
         };
@@ -43,7 +46,7 @@ pub fn doubled_twice(alloc: Global, terms: &mut Terms, times: u32) -> Result<[u3
     let x = variable(alloc, terms)?;
     let again = doubled(terms, x, times)?;
     let x = variable(alloc, terms)?;
-    let further = terms.make(Op::Neg, &[x])?;
+    let further = make(terms, Op::Neg, &[x])?;
     Ok([once.number, again.number, further.number])
 }
 
@@ -54,7 +57,7 @@ fn turned(terms: &mut Terms, term: TermId, times: u32) -> Result<TermId, TermFau
 {
     let mut opposite = term;
     'turning: for _ in 0..times {
-        opposite = match terms.make(Op::Neg, &[opposite]) {
+        opposite = match make(terms, Op::Neg, &[opposite]) {
             Ok(opposite) => opposite,
             Err(fault) => return Err(fault),
         };
@@ -68,7 +71,7 @@ pub fn negated(alloc: Global, terms: &mut Terms, times: u32) -> Result<[u32; 3],
     let opposite = turned(terms, x, times)?;
     let width = terms.width(opposite);
     let x = variable(alloc, terms)?;
-    let complement = terms.make(Op::Not, &[x])?;
+    let complement = make(terms, Op::Not, &[x])?;
     Ok([opposite.number, width, complement.number])
 }
 
@@ -93,8 +96,8 @@ fn sum(alloc: Global) -> Result<Term, NoMemory>
 /// The number of the sum that is interned, that of the same once more, and the number of its second argument.
 pub fn stored(alloc: Global, terms: &mut Terms) -> Result<[u32; 3], TermFault> {
     let term = sum(alloc)?;
-    let first = terms.intern(&term)?;
-    let second = terms.intern(&term)?;
+    let first = intern(terms, &term)?;
+    let second = intern(terms, &term)?;
     let argument = match terms.node(second) {
         TermNode::App { op: _, args } => match args {
             [_, b] => b.number,
@@ -119,7 +122,7 @@ fn literal(value: u32) -> Term
 fn numbered(terms: &mut Terms, count: u32) -> Result<u32, TermFault> {
     let mut own: u32 = 0;
     for value in 0..count {
-        let id = terms.intern(&literal(value))?;
+        let id = intern(terms, &literal(value))?;
         if id.number == value {
             own = own.saturating_add(1);
         }
@@ -131,7 +134,7 @@ fn numbered(terms: &mut Terms, count: u32) -> Result<u32, TermFault> {
 /// not (0); and how many have their own value as their number after that.
 pub fn literals(terms: &mut Terms, count: u32) -> Result<[u32; 3], TermFault> {
     let own = numbered(terms, count)?;
-    let refused = match terms.intern(&literal(count)) {
+    let refused = match intern(terms, &literal(count)) {
         Err(TermFault::TooManyTerms) => 1,
         _ => 0,
     };

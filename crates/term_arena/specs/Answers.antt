@@ -1,5 +1,5 @@
 -- What the calls of interned terms answer.
-use Rattle.std.specs.Prelude.{◌≡◌, ◌<◌, slice_get, List, [], ◌∷◌, Option, Some, None}
+use Rattle.std.specs.Prelude.{◌≡◌, ◌≢◌, ℕ, ◌<◌, slice_get, List, [], ◌∷◌, Option, Some, None}
 use Rattle.bv_bits.specs.declared.Bits.{Bits}
 use Rattle.bv_bits.specs.declared.Op.{Op}
 use Rattle.term_tree.specs.Terms.{Text, Tree, lit, ArrayTree, array, upd, splice}
@@ -45,3 +45,8 @@ IsArrayTop nodes id (array_top.Upd f i e) =
     ((last : List Node) → Keeps nodes last → id_array last id ≡ upd (id_array last f) (id_term last i) (id_term last e)) × (f.number < id.number) × (i.number < id.number) × (e.number < id.number)
 IsArrayTop nodes id (array_top.Splice f g i) =
     ((last : List Node) → Keeps nodes last → id_array last id ≡ splice (id_array last f) (id_array last g) (id_term last i)) × (f.number < id.number) × (g.number < id.number) × (i.number < id.number)
+
+-- the number of an array variable's node, and none where it has none
+abbrev pub FindsArray : List Node → Text → Option ArrayId → Type 0
+FindsArray nodes f (Some a) = id_array nodes a ≡ array f
+FindsArray nodes f None = (n : ℕ) → array_at nodes n ≢ array f

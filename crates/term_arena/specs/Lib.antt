@@ -7,6 +7,4 @@ pub mod Built
 pub mod Said
 pub mod Makes
 pub mod Limits
-pub mod Renumbering
-pub mod Substituting
 pub mod Numbers

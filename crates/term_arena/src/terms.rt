@@ -6,8 +6,7 @@ ghost use Rattle.term_arena.specs.Nodes.{term_at, array_at, meaning_at, meaning_
 ghost use Rattle.term_arena.specs.declared.keeping.TheConstants.{LIMIT};
 ghost use Rattle.term_arena.specs.Arena.{IsArena, IsTypedMeaning, width_in, height_in, asked_node, arguments};
 ghost use Rattle.term_arena.specs.Keeping.{IsIn, HasArray, TypedAreNamed, TypedArraysAreNamed, EqualTermsAreOne, EqualArraysAreOne};
-ghost use Rattle.term_arena.specs.Answers.{literal_of, node_of, IsArrayTop};
-ghost use Rattle.term_arena.specs.Substituting.{FindsArray};
+ghost use Rattle.term_arena.specs.Answers.{literal_of, node_of, IsArrayTop, FindsArray};
 
 use crate::keeping::{keep, key_of};
 use crate::names::Names;
@@ -127,7 +126,7 @@ impl Terms {
     }
 
     /// The node of an array term.
-    pub(crate) fn array_node(&self, id: ArrayId) -> ArrayNode
+    pub fn array_node(&self, id: ArrayId) -> ArrayNode
         requires id { IsTypedArray (array_at self.now id.number) }
         ensures { IsArrayTop self.now id result }
     {
@@ -148,7 +147,7 @@ impl Terms {
     }
 
     /// The node of the array variable of which a term is a byte, if it has one.
-    pub(crate) fn array_of_byte(&self, byte: TermId) -> Option<ArrayId>
+    pub fn array_of_byte(&self, byte: TermId) -> Option<ArrayId>
         requires byte { IsTyped (term_at self.now byte.number) }
         ensures { (f : Text) (i : Tree) → term_at self.now byte.number ≡ sel f i → FindsArray self.now f result }
     {
@@ -164,7 +163,7 @@ impl Terms {
     }
 
     /// The allocator.
-    pub(crate) fn alloc(&self) -> Global {
+    pub fn alloc(&self) -> Global {
         self.alloc
     }
 

@@ -1,0 +1,4 @@
+pub mod WorkLemmas
+pub mod RightLemmas
+pub mod MakingLemmas
+pub mod SelectLemmas

@@ -1,0 +1,4 @@
+pub mod RenumberLemmas
+pub mod SubstituteLemmas
+pub mod KnownLemmas
+pub mod StartLemmas

@@ -1,6 +1,0 @@
-use Rattle.std.proofs.Common.{◌≡◌, ℕ, take}
-use Rattle.term_arena.specs.Renumbering.{number_for, first_array}
-use Rattle.term_arena.proofs.renumbering.Renumbering.of_arrays.Given as goal
-
-abbrev pub invariant-loop-pair : goal.invariant-loop-pair
-invariant-loop-pair l = (n : ℕ) → number_for l.renumbering n ≡ first_array (take l.pair-index l.pairs) n
