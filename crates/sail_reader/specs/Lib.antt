@@ -1,0 +1,4 @@
+pub mod Counts
+pub mod View
+pub mod Turning
+pub mod Reading
