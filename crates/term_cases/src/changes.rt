@@ -1,72 +1,45 @@
 //! Cases about bytes that are selected and variables that are replaced.
 
-ghost use Rattle.std.specs.Prelude.{◌≡◌, ◌≤◌, length, IfOk, Ok};
-ghost use Rattle.lex_core.specs.Lexing.{cut};
-ghost use Rattle.term_tree.specs.Terms.{IsTerm};
-ghost use Rattle.term_tree.specs.View.{tree};
+ghost use Rattle.std.specs.Prelude.{[]};
+ghost use Rattle.term_tree.specs.Terms.{IsTerm, IsArrayTerm};
+ghost use Rattle.term_tree.specs.View.{tree, array_tree};
 ghost use Rattle.term_replace.specs.Replaced.{AreTerms, replacements};
-ghost use Rattle.term_read.specs.ReadingView.{AreDistinct, AreWidths};
 
-use crate::scope::scope;
+use crate::places::{Pair, UNFIT, array_from, array_pair_from, pair_from, term_from};
 use crate::texts::{array_text, text_of};
-use lex_core::{Name, Token, tokens};
+use lex_core::Name;
 use std::alloc::Global;
-use term_read::{TermReadFault, read_array, read_term};
+use term_read::{ArrayAt, TermAt, TermReadFault};
 use term_replace::{fits, fits_array, substitute, substitute_array};
 use term_select::select;
-use term_tree::{ArrayForm, ArrayTerm, Form, Term, VarDecl, array_form_of, form_of, width};
+use term_tree::{ArrayTerm, Term, width};
 
-/// The fault of texts that don't fit together.
-const UNFIT: TermReadFault = TermReadFault::WidthDiffers { at: 0 };
-
-/// The byte that is selected of the first text at the second.
-pub fn selected(alloc: Global, text: &[u8]) -> Result<String, TermReadFault> {
-    let scope = scope(alloc)?;
-    let Ok(found) = tokens(alloc, text) else {
-        return Err(UNFIT);
-    };
-    let of = read_array(alloc, text, found.as_slice(), 0, scope.as_slice())?;
-    let at = read_term(alloc, text, found.as_slice(), of.next, scope.as_slice())?;
-    if width(&at.term) != 64 {
+/// The byte of an array term at an index.
+fn byte_at(alloc: Global, array: &ArrayTerm, at: &Term) -> Result<String, TermReadFault>
+    requires array { IsArrayTerm (array_tree array.now) }
+    requires at { IsTerm (tree at.now) }
+{
+    if width(at) != 64 {
         return Err(UNFIT);
     }
-    match select(alloc, &of.array, &at.term) {
+    match select(alloc, array, at) {
         Ok(byte) => text_of(alloc, &byte),
         Err(fault) => Err(TermReadFault::Term(fault)),
     }
 }
 
-/// A variable, the term for it, and the number of the token behind.
-#[derive(Drop)]
-struct Pair {
-    pair: (Name, Term),
-    next: usize,
+/// The byte of an array term at the index that is read behind it.
+fn selected_of(alloc: Global, text: &[u8], of: &ArrayAt) -> Result<String, TermReadFault>
+    requires { IsArrayTerm (array_tree of.now.array) }
+{
+    let at = term_from(alloc, text, of.next)?;
+    byte_at(alloc, &of.array, &at.term)
 }
 
-/// The variable that is read, and the term for it that is read next.
-fn read_pair(
-    alloc: Global,
-    text: &[u8],
-    tokens: &[Token],
-    from: usize,
-    scope: &[VarDecl],
-) -> Result<Pair, TermReadFault>
-    requires tokens { cut text.now ≡ Ok tokens.now }
-    requires within { from ≤ length tokens.now }
-    requires names { AreDistinct scope.now }
-    requires widths { AreWidths scope.now }
-    ensures term { IfOk result (λ p. IsTerm (tree p.pair.1)) }
-    ensures next { IfOk result (λ p. p.next ≤ length tokens.now) }
-{
-    let variable = read_term(alloc, text, tokens, from, scope)?;
-    let by = read_term(alloc, text, tokens, variable.next, scope)?;
-    match form_of(&variable.term) {
-        Form::Var { name, width: _ } => Ok(Pair {
-            pair: (name.copy(alloc)?, by.term),
-            next: by.next,
-        }),
-        _ => Err(UNFIT),
-    }
+/// The byte that is selected of the first text at the second.
+pub fn selected(alloc: Global, text: &[u8]) -> Result<String, TermReadFault> {
+    let of = array_from(alloc, text, 0)?;
+    selected_of(alloc, text, &of)
 }
 
 /// A term with replacements.
@@ -88,53 +61,80 @@ fn put(
     }
 }
 
+/// A term with a variable replaced, and a second one by what is read behind.
+fn put_two(alloc: Global, text: &[u8], term: &Term, one: Pair) -> Result<String, TermReadFault>
+    requires term { IsTerm (tree term.now) }
+    requires by { IsTerm (tree one.pair.1) }
+{
+    let two = pair_from(alloc, text, one.next)?;
+    put(alloc, term, &[one.pair, two.pair], &[])
+}
+
+/// A term with the two variables replaced that are read behind it.
+fn replaced_of(alloc: Global, text: &[u8], term: &TermAt) -> Result<String, TermReadFault>
+    requires { IsTerm (tree term.now.term) }
+{
+    let one = pair_from(alloc, text, term.next)?;
+    put_two(alloc, text, &term.term, one)
+}
+
 /// The first text with two variables replaced.
 pub fn replaced(alloc: Global, text: &[u8]) -> Result<String, TermReadFault> {
-    let scope = scope(alloc)?;
-    let Ok(found) = tokens(alloc, text) else {
-        return Err(UNFIT);
-    };
-    let term = read_term(alloc, text, found.as_slice(), 0, scope.as_slice())?;
-    let one = read_pair(alloc, text, found.as_slice(), term.next, scope.as_slice())?;
-    let two = read_pair(alloc, text, found.as_slice(), one.next, scope.as_slice())?;
-    put(alloc, &term.term, &[one.pair, two.pair], &[])
+    let term = term_from(alloc, text, 0)?;
+    replaced_of(alloc, text, &term)
+}
+
+/// A term with a variable replaced, and an array variable by what is read behind.
+fn put_both(alloc: Global, text: &[u8], term: &Term, one: Pair) -> Result<String, TermReadFault>
+    requires term { IsTerm (tree term.now) }
+    requires by { IsTerm (tree one.pair.1) }
+{
+    let array = array_pair_from(alloc, text, one.next)?;
+    put(alloc, term, &[one.pair], &[array])
+}
+
+/// A term with the variable and the array variable replaced that are read behind it.
+fn both_replaced_of(alloc: Global, text: &[u8], term: &TermAt) -> Result<String, TermReadFault>
+    requires { IsTerm (tree term.now.term) }
+{
+    let one = pair_from(alloc, text, term.next)?;
+    put_both(alloc, text, &term.term, one)
 }
 
 /// The first text with a variable and an array variable replaced.
 pub fn replaced_array(alloc: Global, text: &[u8]) -> Result<String, TermReadFault> {
-    let scope = scope(alloc)?;
-    let Ok(found) = tokens(alloc, text) else {
+    let term = term_from(alloc, text, 0)?;
+    both_replaced_of(alloc, text, &term)
+}
+
+/// An array term with variables replaced.
+fn put_array(
+    alloc: Global,
+    array: &ArrayTerm,
+    bits: &[(Name, Term)],
+) -> Result<String, TermReadFault>
+    requires array { IsArrayTerm (array_tree array.now) }
+    requires by { AreTerms (replacements bits.now []) }
+{
+    if !fits_array(array, bits, &[]) {
         return Err(UNFIT);
-    };
-    let term = read_term(alloc, text, found.as_slice(), 0, scope.as_slice())?;
-    let one = read_pair(alloc, text, found.as_slice(), term.next, scope.as_slice())?;
-    let of = read_array(alloc, text, found.as_slice(), one.next, scope.as_slice())?;
-    let by = read_array(alloc, text, found.as_slice(), of.next, scope.as_slice())?;
-    match array_form_of(&of.array) {
-        ArrayForm::Var { name } => put(
-            alloc,
-            &term.term,
-            &[one.pair],
-            &[(name.copy(alloc)?, by.array)],
-        ),
-        _ => Err(UNFIT),
     }
+    match substitute_array(alloc, array, bits, &[]) {
+        Ok(made) => array_text(alloc, &made),
+        Err(fault) => Err(TermReadFault::Term(fault)),
+    }
+}
+
+/// An array term with the variable replaced that is read behind it.
+fn replaced_index_of(alloc: Global, text: &[u8], array: &ArrayAt) -> Result<String, TermReadFault>
+    requires { IsArrayTerm (array_tree array.now.array) }
+{
+    let one = pair_from(alloc, text, array.next)?;
+    put_array(alloc, &array.array, &[one.pair])
 }
 
 /// The array term that is the first text, with a variable replaced.
 pub fn replaced_index(alloc: Global, text: &[u8]) -> Result<String, TermReadFault> {
-    let scope = scope(alloc)?;
-    let Ok(found) = tokens(alloc, text) else {
-        return Err(UNFIT);
-    };
-    let array = read_array(alloc, text, found.as_slice(), 0, scope.as_slice())?;
-    let one = read_pair(alloc, text, found.as_slice(), array.next, scope.as_slice())?;
-    let bits = [one.pair];
-    if !fits_array(&array.array, &bits, &[]) {
-        return Err(UNFIT);
-    }
-    match substitute_array(alloc, &array.array, &bits, &[]) {
-        Ok(made) => array_text(alloc, &made),
-        Err(fault) => Err(TermReadFault::Term(fault)),
-    }
+    let array = array_from(alloc, text, 0)?;
+    replaced_index_of(alloc, text, &array)
 }

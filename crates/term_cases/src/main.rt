@@ -3,9 +3,11 @@
 #![tactic(auto)]
 
 mod changes;
+mod places;
 mod scope;
 mod texts;
 
+use case_lines::{cut_word, is_comment};
 use changes::{replaced, replaced_array, replaced_index, selected};
 use scope::fault_text;
 use std::alloc::{AllocError, Global};
@@ -26,45 +28,53 @@ fn of_text(alloc: Global, kind: &str, text: &[u8]) -> Result<String, TermReadFau
     }
 }
 
+/// What comes of a case about variables that are replaced, or one text.
+fn of_texts(alloc: Global, kind: &str, text: &[u8]) -> Result<String, TermReadFault> {
+    if kind == "select" {
+        selected(alloc, text)
+    } else if kind == "replace" {
+        replaced(alloc, text)
+    } else if kind == "replace_array" {
+        replaced_array(alloc, text)
+    } else if kind == "index" {
+        replaced_index(alloc, text)
+    } else {
+        of_text(alloc, kind, text)
+    }
+}
+
 /// What comes of a case.
 fn of_case(alloc: Global, kind: &str, text: &str) -> Result<String, TermReadFault> {
     if kind == "not" || kind == "neg" {
         nested(alloc, kind.as_bytes(), text)
-    } else if kind == "select" {
-        selected(alloc, text.as_bytes())
-    } else if kind == "replace" {
-        replaced(alloc, text.as_bytes())
-    } else if kind == "replace_array" {
-        replaced_array(alloc, text.as_bytes())
-    } else if kind == "index" {
-        replaced_index(alloc, text.as_bytes())
     } else {
-        of_text(alloc, kind, text.as_bytes())
+        of_texts(alloc, kind, text.as_bytes())
     }
 }
 
 /// What comes of a line.
 fn told(alloc: Global, line: &str) -> Result<String, AllocError> {
-    let (kind, text) = match line.split_once(' ') {
-        Some(parts) => parts,
-        None => (line, ""),
-    };
+    let (kind, text) = cut_word(line);
     match of_case(alloc, kind, text) {
         Ok(text) => Ok(text),
         Err(fault) => fault_text(alloc, fault),
     }
 }
 
+/// Prints a line and what comes of it.
+fn tell(rt: &HostRuntime, line: &str) -> io::Result<()> {
+    if is_comment(line) {
+        println!(rt; "{line}")
+    } else {
+        let told = told(rt.alloc(), line)?;
+        println!(rt; "{line} = {told}")
+    }
+}
+
 fn main(rt: HostRuntime) -> io::Result<()> {
-    let alloc = rt.alloc();
-    for line in rt.lines(alloc) {
+    for line in rt.lines(rt.alloc()) {
         let line = line?;
-        if line.starts_with('#') {
-            println!(rt; "{line}")?;
-        } else {
-            let told = told(alloc, line.as_str())?;
-            println!(rt; "{line} = {told}")?;
-        }
+        tell(&rt, line.as_str())?;
     }
     Ok(())
 }
