@@ -5,16 +5,16 @@ ghost use Rattle.std.specs.Str.{IsUtf8};
 ghost use Rattle.std.specs.Str.Lossy.{utf8_lossy};
 ghost use Rattle.std.specs.Fmt as fmt;
 ghost use Rattle.bv_bits.specs.Bits.{IsBits};
-ghost use Rattle.term_tree.specs.Terms.{IsTyped, IsTerm, IsTypedArray, IsArrayTerm};
+ghost use Rattle.term_tree.specs.Terms.{one, two, three, sel, upd, splice, IsTyped, IsTerm, IsTypedArray, IsArrayTerm};
 ghost use Rattle.term_tree.specs.View.{tree, array_tree};
 ghost use Rattle.term_print.specs.Printing as spec;
 ghost use Rattle.term_tree.specs.Divisions.{is_division, HasNoDivision, ArrayHasNoDivision};
 ghost use Rattle.term_print.specs.Printing.{term_text, array_text, literal_text, last_digits};
 
 use bv_bits::{Bits, Op};
-use lex_core::NoMemory;
+use lex_core::{Name, NoMemory};
 use std::alloc::Global;
-use term_tree::{ArrayTerm, Term};
+use term_tree::{ArrayForm, ArrayTerm, Form, Term, array_form_of, form_of};
 
 /// A digit in lower case.
 fn digit(value: u8) -> u8
@@ -124,6 +124,14 @@ fn put_operator(alloc: Global, out: &mut Vec<u8>, op: Op) -> Result<(), NoMemory
     }
 }
 
+/// Appends a name.
+fn put_name(out: &mut Vec<u8>, name: &Name) -> Result<(), NoMemory>
+    ensures { OnOk result (out.new.items ≡ out.old.items ++ name.now) }
+{
+    out.extend_from_slice(name.bytes())?;
+    Ok(())
+}
+
 /// Appends a space and a term.
 #[cycle(put)]
 fn put_part(alloc: Global, out: &mut Vec<u8>, term: &Term) -> Result<(), NoMemory>
@@ -135,6 +143,69 @@ fn put_part(alloc: Global, out: &mut Vec<u8>, term: &Term) -> Result<(), NoMemor
     put_term(alloc, out, term)
 }
 
+/// Appends an operator at one argument.
+#[cycle(put)]
+fn put_one(alloc: Global, out: &mut Vec<u8>, op: Op, a: &Term) -> Result<(), NoMemory>
+    requires typed { IsTyped (one op (tree a.now)) }
+    requires no_division { HasNoDivision (one op (tree a.now)) }
+    ensures { OnOk result (out.new.items ≡ out.old.items ++ term_text (one op (tree a.now))) }
+{
+    put_operator(alloc, out, op)?;
+    put_part(alloc, out, a)?;
+    out.push(b')')?;
+    Ok(())
+}
+
+/// Appends an operator at two arguments.
+#[cycle(put)]
+fn put_two(alloc: Global, out: &mut Vec<u8>, op: Op, a: &Term, b: &Term) -> Result<(), NoMemory>
+    requires typed { IsTyped (two op (tree a.now) (tree b.now)) }
+    requires no_division { HasNoDivision (two op (tree a.now) (tree b.now)) }
+    ensures { OnOk result (out.new.items ≡ out.old.items ++ term_text (two op (tree a.now) (tree b.now))) }
+{
+    put_operator(alloc, out, op)?;
+    put_part(alloc, out, a)?;
+    put_part(alloc, out, b)?;
+    out.push(b')')?;
+    Ok(())
+}
+
+/// Appends an operator at three arguments.
+#[cycle(put)]
+fn put_three(
+    alloc: Global,
+    out: &mut Vec<u8>,
+    op: Op,
+    a: &Term,
+    b: &Term,
+    c: &Term,
+) -> Result<(), NoMemory>
+    requires typed { IsTyped (three op (tree a.now) (tree b.now) (tree c.now)) }
+    requires no_division { HasNoDivision (three op (tree a.now) (tree b.now) (tree c.now)) }
+    ensures { OnOk result (out.new.items ≡ out.old.items ++ term_text (three op (tree a.now) (tree b.now) (tree c.now))) }
+{
+    put_operator(alloc, out, op)?;
+    put_part(alloc, out, a)?;
+    put_part(alloc, out, b)?;
+    put_part(alloc, out, c)?;
+    out.push(b')')?;
+    Ok(())
+}
+
+/// Appends the byte of an array variable at an index.
+#[cycle(put)]
+fn put_selected(alloc: Global, out: &mut Vec<u8>, of: &Name, at: &Term) -> Result<(), NoMemory>
+    requires typed { IsTyped (sel of.now (tree at.now)) }
+    requires no_division { HasNoDivision (sel of.now (tree at.now)) }
+    ensures { OnOk result (out.new.items ≡ out.old.items ++ term_text (sel of.now (tree at.now))) }
+{
+    out.extend_from_slice(b"(sel ")?;
+    put_name(out, of)?;
+    put_part(alloc, out, at)?;
+    out.push(b')')?;
+    Ok(())
+}
+
 /// Appends a term.
 #[cycle(put)]
 fn put_term(alloc: Global, out: &mut Vec<u8>, term: &Term) -> Result<(), NoMemory>
@@ -142,45 +213,13 @@ fn put_term(alloc: Global, out: &mut Vec<u8>, term: &Term) -> Result<(), NoMemor
     requires no_division { HasNoDivision (tree term.now) }
     ensures { OnOk result (out.new.items ≡ out.old.items ++ term_text (tree term.now)) }
 {
-    match term {
-        Term::Lit(bits) => put_literal(out, *bits),
-        Term::Var { name, width: _ } => {
-            out.extend_from_slice(name.bytes())?;
-            Ok(())
-        }
-        Term::App { op, args } => {
-            match args.as_slice() {
-                [a] => {
-                    put_operator(alloc, out, *op)?;
-                    put_part(alloc, out, a)?;
-                    out.push(b')')?;
-                    Ok(())
-                }
-                [a, b] => {
-                    put_operator(alloc, out, *op)?;
-                    put_part(alloc, out, a)?;
-                    put_part(alloc, out, b)?;
-                    out.push(b')')?;
-                    Ok(())
-                }
-                [a, b, c] => {
-                    put_operator(alloc, out, *op)?;
-                    put_part(alloc, out, a)?;
-                    put_part(alloc, out, b)?;
-                    put_part(alloc, out, c)?;
-                    out.push(b')')?;
-                    Ok(())
-                }
-                _ => unreachable!(),
-            }
-        }
-        Term::Sel { of, at } => {
-            out.extend_from_slice(b"(sel ")?;
-            out.extend_from_slice(of.bytes())?;
-            put_part(alloc, out, at.get())?;
-            out.push(b')')?;
-            Ok(())
-        }
+    match form_of(term) {
+        Form::Lit(bits) => put_literal(out, bits),
+        Form::Var { name, width: _ } => put_name(out, name),
+        Form::One { op, a } => put_one(alloc, out, op, a),
+        Form::Two { op, a, b } => put_two(alloc, out, op, a, b),
+        Form::Three { op, a, b, c } => put_three(alloc, out, op, a, b, c),
+        Form::Sel { of, at } => put_selected(alloc, out, of, at),
     }
 }
 
@@ -195,6 +234,48 @@ fn put_array_part(alloc: Global, out: &mut Vec<u8>, array: &ArrayTerm) -> Result
     put_array(alloc, out, array)
 }
 
+/// Appends an array term, but for the byte at an index.
+#[cycle(put_arrays)]
+fn put_update(
+    alloc: Global,
+    out: &mut Vec<u8>,
+    of: &ArrayTerm,
+    at: &Term,
+    by: &Term,
+) -> Result<(), NoMemory>
+    requires typed { IsTypedArray (upd (array_tree of.now) (tree at.now) (tree by.now)) }
+    requires no_division { ArrayHasNoDivision (upd (array_tree of.now) (tree at.now) (tree by.now)) }
+    ensures { OnOk result (out.new.items ≡ out.old.items ++ array_text (upd (array_tree of.now) (tree at.now) (tree by.now))) }
+{
+    out.extend_from_slice(b"(upd")?;
+    put_array_part(alloc, out, of)?;
+    put_part(alloc, out, at)?;
+    put_part(alloc, out, by)?;
+    out.push(b')')?;
+    Ok(())
+}
+
+/// Appends an array term below an index and another one from it on.
+#[cycle(put_arrays)]
+fn put_splice(
+    alloc: Global,
+    out: &mut Vec<u8>,
+    of: &ArrayTerm,
+    below: &ArrayTerm,
+    at: &Term,
+) -> Result<(), NoMemory>
+    requires typed { IsTypedArray (splice (array_tree of.now) (array_tree below.now) (tree at.now)) }
+    requires no_division { ArrayHasNoDivision (splice (array_tree of.now) (array_tree below.now) (tree at.now)) }
+    ensures { OnOk result (out.new.items ≡ out.old.items ++ array_text (splice (array_tree of.now) (array_tree below.now) (tree at.now))) }
+{
+    out.extend_from_slice(b"(splice")?;
+    put_array_part(alloc, out, of)?;
+    put_array_part(alloc, out, below)?;
+    put_part(alloc, out, at)?;
+    out.push(b')')?;
+    Ok(())
+}
+
 /// Appends an array term.
 #[cycle(put_arrays)]
 fn put_array(alloc: Global, out: &mut Vec<u8>, array: &ArrayTerm) -> Result<(), NoMemory>
@@ -202,27 +283,10 @@ fn put_array(alloc: Global, out: &mut Vec<u8>, array: &ArrayTerm) -> Result<(), 
     requires no_division { ArrayHasNoDivision (array_tree array.now) }
     ensures { OnOk result (out.new.items ≡ out.old.items ++ array_text (array_tree array.now)) }
 {
-    match array {
-        ArrayTerm::Var(name) => {
-            out.extend_from_slice(name.bytes())?;
-            Ok(())
-        }
-        ArrayTerm::Upd { of, at, by } => {
-            out.extend_from_slice(b"(upd")?;
-            put_array_part(alloc, out, of.get())?;
-            put_part(alloc, out, at.get())?;
-            put_part(alloc, out, by.get())?;
-            out.push(b')')?;
-            Ok(())
-        }
-        ArrayTerm::Splice { of, below, at } => {
-            out.extend_from_slice(b"(splice")?;
-            put_array_part(alloc, out, of.get())?;
-            put_array_part(alloc, out, below.get())?;
-            put_part(alloc, out, at.get())?;
-            out.push(b')')?;
-            Ok(())
-        }
+    match array_form_of(array) {
+        ArrayForm::Var { name } => put_name(out, name),
+        ArrayForm::Upd { of, at, by } => put_update(alloc, out, of, at, by),
+        ArrayForm::Splice { of, below, at } => put_splice(alloc, out, of, below, at),
     }
 }
 
