@@ -10,7 +10,7 @@ use Rattle.term_read.specs.declared.reading.TermReadFault.{TermReadFault}
 use Rattle.term_read.specs.declared.reading.TermReadFault.TheVariants as fault
 use Rattle.term_tree.specs.Terms.{Text, Tree, ArrayTree, array, upd, splice, width_of, array_height, HIGHEST}
 use Rattle.term_print.specs.Words.{Word, opens, closes, name, number, literal, other, lexeme, lexemes}
-use Rattle.term_read.specs.Scopes.{Scope, sort_of}
+use Rattle.term_words.specs.Scopes.{Scope, sort_of}
 use Rattle.term_read.specs.Reading.{Turn, goes, ends, fails, step, Outcome, Answer, too_high, ArrayFrame, updated, spliced, spliced_below, Slot, updated_at, updated_by, spliced_at, ArrayMode, array_wanted, array_head, in_term, array_close, ArrayTurn, array_goes, array_ends, array_fails, array_step, array_go_on, array_run, array_given, array_judged, filled, array_variable, in_turn, on_array_wanted, on_array_head, on_array_close, numbered, array_from}
 use Rattle.term_read.specs.Spelling.{Words, placed, Spells, ArraySpells, an_array, an_update, a_splice}
 use Rattle.term_tree.proofs.SameLemmas.{same_text}

@@ -5,7 +5,7 @@ use Rattle.std.proofs.lemmas.Bool.{lt-ltb, le-ltb, eq-eqb}
 use Rattle.lex_core.specs.declared.token.Token.{Token}
 use Rattle.term_tree.specs.Terms.{Text, Tree, ArrayTree, upd, splice, width_of, array_height, HIGHEST}
 use Rattle.term_print.specs.Words.{name, opens, closes, lexemes}
-use Rattle.term_read.specs.Scopes.{Scope}
+use Rattle.term_words.specs.Scopes.{Scope}
 use Rattle.term_read.specs.Reading.{Frame, Mode, wanted, Turn, goes, ends, fails, Outcome, step, too_high, ArrayFrame, updated, spliced, spliced_below, Slot, updated_at, updated_by, spliced_at, array_wanted, array_head, in_term, array_close, ArrayTurn, array_goes, array_fails, array_go_on, array_run, array_given, array_judged, filled, array_variable, in_turn, numbered, array_from}
 use Rattle.term_read.specs.Spelling.{Words, placed, Spells, ArraySpells, an_array, an_update, a_splice}
 use Rattle.term_read.proofs.SpelledLemmas.{drive, Drives, reads}

@@ -1,17 +1,10 @@
 pub mod ArraySoundLemmas
 pub mod ArraySpelledLemmas
-pub mod ArrayWordLemmas
-pub mod DeclaredLemmas
-pub mod FormedLemmas
 pub mod LoopLemmas
 pub mod NormalSpelledLemmas
-pub mod PrintedReadLemmas
-pub mod ReadBackLemmas
 pub mod ReadDivisionLemmas
-pub mod ReadTermLemmas
 pub mod ReadingLemmas
 pub mod SoundLemmas
 pub mod SpelledLemmas
 pub mod SpelledPartLemmas
 pub mod TokenLemmas
-pub mod WordLemmas

@@ -17,7 +17,7 @@ use Rattle.term_read.specs.declared.array_reading.ArrayTurn.TheVariants as own_a
 use Rattle.term_tree.specs.Terms.{Text, Tree, ArrayTree}
 use Rattle.term_tree.specs.View.{tree, array_tree}
 use Rattle.term_print.specs.Words.{Word, word_of, Lexeme, lexeme, lexemes}
-use Rattle.term_read.specs.Scopes.{Scope}
+use Rattle.term_words.specs.Scopes.{Scope}
 use Rattle.term_read.specs.Reading.{Frame, Mode, wanted, Turn, fails, step, go_on, run, Outcome, numbered, term_from, ArrayFrame, ArrayMode, array_wanted, ArrayTurn, array_fails, array_step, array_go_on, array_run, array_from}
 use Rattle.term_read.specs.ReadingView.{mode_view, Turns, FailsBy, Faults, HoldTerms, IsFine, GoesFine, array_mode_view, ArrayTurns, ArrayFailsBy, HoldArrays, IsFineArrayMode, ArrayGoesFine}
 

@@ -5,7 +5,7 @@ use Rattle.std.specs.Prelude.{⊤}
 use Rattle.term_tree.specs.Terms.{Tree, ArrayTree, array, applied}
 use Rattle.term_make.specs.Making.{make}
 use Rattle.term_select.specs.Selecting.{select}
-use Rattle.term_read.specs.Scopes.{Scope}
+use Rattle.term_words.specs.Scopes.{Scope}
 use Rattle.term_read.specs.Spelling.{Words, Spells, ArraySpells}
 use Rattle.term_make.specs.Normal.{IsNormal, normal_literal, normal_variable, normal_selection, HasNormalParts, IsNormalArray}
 use Rattle.term_make.proofs.AnswerLemmas.{within_is}

@@ -8,8 +8,8 @@ use Rattle.term_make.specs.Making.{plain, make}
 use Rattle.term_select.specs.Selecting.{select}
 use Rattle.term_tree.specs.Divisions.{is_division, HasNoDivision, ArrayHasNoDivision}
 use Rattle.term_print.specs.Words.{lexemes}
-use Rattle.term_read.specs.Scopes.{Scope}
-use Rattle.term_read.specs.Operators.{operators, operator_in, operator_of}
+use Rattle.term_words.specs.Scopes.{Scope}
+use Rattle.term_words.specs.Operators.{operators, operator_in, operator_of}
 use Rattle.term_read.specs.Reading.{term_from, array_from}
 use Rattle.term_read.specs.Spelling as spelling
 use Rattle.term_read.specs.Spelling.{Words, Heads, extracting, zero_extending, sign_extending}

@@ -11,7 +11,7 @@ use Rattle.term_read.specs.declared.term_reading.Frame as code_frame
 use Rattle.term_read.specs.declared.array_reading.ArrayFrame as code_array_frame
 use Rattle.term_tree.specs.declared.term.Sort.{Sort}
 use Rattle.term_tree.specs.declared.term.Sort.TheVariants as sort
-use Rattle.term_read.specs.Scopes.{Scope, sort_of}
+use Rattle.term_words.specs.Scopes.{Scope, sort_of}
 use Rattle.bv_bits.specs.declared.Bits.{Bits}
 use Rattle.term_tree.specs.Terms.{Text, Tree, lit, var, sel, array, IsTyped, IsTerm, applied, width_of, height, HIGHEST}
 use Rattle.term_select.specs.Selecting.{select}

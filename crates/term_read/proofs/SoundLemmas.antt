@@ -13,8 +13,8 @@ use Rattle.term_tree.specs.Terms.{Text, Tree, lit, var, array, applied, width_of
 use Rattle.term_make.specs.Making.{make, within_height}
 use Rattle.term_select.specs.Selecting.{select}
 use Rattle.term_print.specs.Words.{Word, opens, closes, name, number, literal, other, Lexeme, lexeme, lexemes}
-use Rattle.term_read.specs.Operators.{arity, operator_of}
-use Rattle.term_read.specs.Scopes.{Scope, sort_of}
+use Rattle.term_words.specs.Operators.{arity, operator_of}
+use Rattle.term_words.specs.Scopes.{Scope, sort_of}
 use Rattle.term_read.specs.Reading.{Frame, arguments, index, Whole, application, selection, Mode, wanted, head, high, low, extended, of_array, close, Turn, goes, ends, fails, Outcome, go_on, run, step, judged, argument_read, begun, given, given_made, variable, selected, headed, whole_made, on_wanted, on_head, on_close, Answer, numbered, term_from}
 use Rattle.term_read.specs.Spelling.{Words, placed, Heads, plain, extracting, zero_extending, sign_extending, Spells, a_literal, a_variable, an_application, a_selection, Arguments, no_more, one_more}
 use Rattle.lex_core.specs.declared.token.Token.{Token}

@@ -10,7 +10,7 @@ use Rattle.term_tree.specs.Terms.{Text, Tree, lit, var, ArrayTree, array, upd, s
 use Rattle.term_make.specs.Making.{make, within_height}
 use Rattle.term_select.specs.Selecting.{select}
 use Rattle.term_print.specs.Words.{Word, name, literal}
-use Rattle.term_read.specs.Scopes.{Scope, sort_of}
+use Rattle.term_words.specs.Scopes.{Scope, sort_of}
 use Rattle.term_read.specs.Spelling as spelling
 use Rattle.term_read.specs.Spelling.{Words, Heads, extracting, zero_extending, sign_extending, Spells, a_literal, a_variable, an_application, a_selection, Arguments, no_more, one_more, ArraySpells, an_array, an_update, a_splice}
 

@@ -1,10 +1,4 @@
-pub mod DeclaredTerms
-pub mod Operators
-pub mod ReadBackLaws
 pub mod Reading
 pub mod ReadingView
-pub mod Scopes
 pub mod Spelling
 pub mod TextLaws
-pub mod WordLaws
-pub mod WordView

@@ -27,7 +27,7 @@ use Rattle.term_read.specs.declared.array_reading.ArrayMode as code_array_mode
 use Rattle.term_read.specs.declared.array_reading.ArrayMode.TheVariants as own_array_mode
 use Rattle.term_read.specs.declared.array_reading.ArrayTurn as code_array_turn
 use Rattle.term_read.specs.declared.array_reading.ArrayTurn.TheVariants as own_array_turn
-use Rattle.term_read.specs.Scopes.{sort_of}
+use Rattle.term_words.specs.Scopes.{sort_of}
 use Rattle.term_read.specs.Reading.{Answer, ArrayFrame, updated, spliced, spliced_below, Slot, updated_at, updated_by, spliced_at, ArrayMode, array_wanted, array_head, in_term, array_close, ArrayTurn, array_goes, array_ends, array_fails, Frame, arguments, index, Whole, application, selection, Mode, wanted, head, high, low, extended, of_array, close, Turn, goes, ends, fails}
 
 -- ---- the code's values as plain data

@@ -9,8 +9,8 @@ use Rattle.term_tree.specs.Terms.{Text, Tree, lit, var, ArrayTree, array, upd, s
 use Rattle.term_make.specs.Making.{make, within_height}
 use Rattle.term_select.specs.Selecting.{select}
 use Rattle.term_print.specs.Words.{Word, opens, closes, name, number, literal, Lexeme}
-use Rattle.term_read.specs.Operators.{arity, operator_of}
-use Rattle.term_read.specs.Scopes.{Scope, sort_of}
+use Rattle.term_words.specs.Operators.{arity, operator_of}
+use Rattle.term_words.specs.Scopes.{Scope, sort_of}
 
 -- words in a row
 abbrev pub Words : Type 0

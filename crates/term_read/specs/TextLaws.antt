@@ -3,7 +3,7 @@ use Rattle.std.specs.Prelude.{◌≡◌, ℕ, ◌≤◌, List, drop, length, Ok}
 use Rattle.lex_core.specs.declared.token.Token.{Token}
 use Rattle.term_tree.specs.Terms.{Text, Tree, ArrayTree}
 use Rattle.term_print.specs.Words.{lexemes}
-use Rattle.term_read.specs.Scopes.{Scope}
+use Rattle.term_words.specs.Scopes.{Scope}
 use Rattle.term_read.specs.Reading.{DEEPEST, term_from, array_from}
 use Rattle.term_read.specs.Spelling.{Words, Spells, ArraySpells}
 use Rattle.term_make.specs.Normal.{IsNormal}

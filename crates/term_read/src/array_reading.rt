@@ -3,18 +3,19 @@
 ghost use Rattle.std.specs.Prelude.{◌≡◌, ◌≤◌, ◌<◌, ◌+◌, ◌^◌, ◌∷◌, [], true, length, IfOk, Ok, OnOk, MatchOption, nat_lt};
 ghost use Rattle.term_tree.specs.Terms.{upd, splice, IsTerm, IsArrayTerm, array_height, HIGHEST};
 ghost use Rattle.term_tree.specs.View.{tree, array_tree};
-ghost use Rattle.term_read.specs.WordView.{word_view, IsFineWord};
-ghost use Rattle.term_read.specs.Scopes.{sort_of as sort_in};
+ghost use Rattle.term_print.specs.Words.{closes};
+ghost use Rattle.term_words.specs.WordView.{word_view, IsFineWord};
+ghost use Rattle.term_words.specs.Scopes.{sort_of as sort_in};
 ghost use Rattle.term_read.specs.Reading as spec;
-ghost use Rattle.term_read.specs.ReadingView.{frames_of, mode_view, HoldTerms, IsFine, AreWidths, array_frame_view, array_frames_of, slot_view, array_mode_view, ArrayTurns, HoldArrays, IsFineSlot, IsFineArray, IsFineArrayMode, ArrayGoesFine};
+ghost use Rattle.term_read.specs.ReadingView.{frames_of, mode_view, HoldTerms, IsFine, Turns, GoesFine, AreWidths, array_frame_view, array_frames_of, slot_view, array_mode_view, ArrayTurns, HoldArrays, IsFineSlot, IsFineArray, IsFineArrayMode, ArrayGoesFine};
 
 use crate::reading::TermReadFault;
 use crate::term_reading::{DEEPEST, Frame, Mode, Turn, step};
-use crate::words::{Word, sort_of};
 use lex_core::{Name, NoMemory};
 use sqlite_items::{Boxed, Items};
 use std::alloc::Global;
 use term_tree::{ArrayTerm, HIGHEST, Sort, Term, TermFault, VarDecl, array_height, height, width};
+use term_words::{Word, sort_of};
 
 /// A bracket that is open, where an array term is to come, with the place of its `(`.
 #[derive(Drop)]
@@ -146,15 +147,50 @@ fn array_given(
     }
 }
 
+/// An array whose parts are boxed, but for the byte that comes in.
+fn updated_by(
+    alloc: Global,
+    of: Boxed<ArrayTerm>,
+    at: Boxed<Term>,
+    by: Term,
+) -> Result<ArrayTerm, NoMemory>
+    ensures { IfOk result (λ f. array_tree f ≡ upd (array_tree of) (tree at) (tree by)) }
+{
+    let by = Boxed::new(alloc, by)?;
+    Ok(ArrayTerm::Upd { of, at, by })
+}
+
+/// A boxed array, but for the byte at an index.
+fn updated(
+    alloc: Global,
+    of: Boxed<ArrayTerm>,
+    index: Term,
+    by: Term,
+) -> Result<ArrayTerm, NoMemory>
+    ensures { IfOk result (λ f. array_tree f ≡ upd (array_tree of) (tree index) (tree by)) }
+{
+    let at = Boxed::new(alloc, index)?;
+    updated_by(alloc, of, at, by)
+}
+
 /// An array, but for the byte at an index.
 fn update(alloc: Global, of: ArrayTerm, index: Term, by: Term) -> Result<ArrayTerm, NoMemory>
     ensures { IfOk result (λ f. array_tree f ≡ upd (array_tree of) (tree index) (tree by)) }
 {
-    Ok(ArrayTerm::Upd {
-        of: Boxed::new(alloc, of)?,
-        at: Boxed::new(alloc, index)?,
-        by: Boxed::new(alloc, by)?,
-    })
+    let of = Boxed::new(alloc, of)?;
+    updated(alloc, of, index, by)
+}
+
+/// Closes an array term next, if its parts fit.
+fn array_judged(fits: bool, at: usize, array: ArrayTerm) -> Result<ArrayTurn, TermReadFault>
+    ensures turn { (a : _) → ArrayTurns (spec.array_judged fits at a (array_tree array)) result a }
+    ensures fine { (a : _) → (fits ≡ true → IsFineArray (array_tree array)) → HoldArrays a → ArrayGoesFine result a }
+{
+    if fits {
+        Ok(ArrayTurn::Goes(ArrayMode::Close(array)))
+    } else {
+        Err(TermReadFault::WidthDiffers { at })
+    }
 }
 
 /// The byte of `upd` is read.
@@ -171,14 +207,35 @@ fn update_read(
     ensures turn { (a : _) → ArrayTurns (spec.filled a (spec.updated_by at (array_tree of) (tree index)) (tree by)) result a }
     ensures fine { (a : _) → HoldArrays a → ArrayGoesFine result a }
 {
-    if width(&index) != 64 {
-        return Err(TermReadFault::WidthDiffers { at });
-    }
-    if width(&by) != 8 {
-        return Err(TermReadFault::WidthDiffers { at });
-    }
+    let fits = width(&index) == 64 && width(&by) == 8;
     let array = update(alloc, of, index, by)?;
-    Ok(ArrayTurn::Goes(ArrayMode::Close(array)))
+    array_judged(fits, at, array)
+}
+
+/// Two boxed arrays, the one below an index and the other from it on.
+fn joined_at(
+    alloc: Global,
+    of: Boxed<ArrayTerm>,
+    below: Boxed<ArrayTerm>,
+    index: Term,
+) -> Result<ArrayTerm, NoMemory>
+    ensures { IfOk result (λ f. array_tree f ≡ splice (array_tree of) (array_tree below) (tree index)) }
+{
+    let at = Boxed::new(alloc, index)?;
+    Ok(ArrayTerm::Splice { of, below, at })
+}
+
+/// An array below an index, and a boxed one from it on.
+fn joined_below(
+    alloc: Global,
+    of: Boxed<ArrayTerm>,
+    below: ArrayTerm,
+    index: Term,
+) -> Result<ArrayTerm, NoMemory>
+    ensures { IfOk result (λ f. array_tree f ≡ splice (array_tree of) (array_tree below) (tree index)) }
+{
+    let below = Boxed::new(alloc, below)?;
+    joined_at(alloc, of, below, index)
 }
 
 /// Two arrays, the one below an index and the other from it on.
@@ -190,11 +247,8 @@ fn joined(
 ) -> Result<ArrayTerm, NoMemory>
     ensures { IfOk result (λ f. array_tree f ≡ splice (array_tree of) (array_tree below) (tree index)) }
 {
-    Ok(ArrayTerm::Splice {
-        of: Boxed::new(alloc, of)?,
-        below: Boxed::new(alloc, below)?,
-        at: Boxed::new(alloc, index)?,
-    })
+    let of = Boxed::new(alloc, of)?;
+    joined_below(alloc, of, below, index)
 }
 
 /// The index of `splice` is read.
@@ -211,11 +265,9 @@ fn splice_read(
     ensures turn { (a : _) → ArrayTurns (spec.filled a (spec.spliced_at at (array_tree of) (array_tree below)) (tree index)) result a }
     ensures fine { (a : _) → HoldArrays a → ArrayGoesFine result a }
 {
-    if width(&index) != 64 {
-        return Err(TermReadFault::WidthDiffers { at });
-    }
+    let fits = width(&index) == 64;
     let array = joined(alloc, of, below, index)?;
-    Ok(ArrayTurn::Goes(ArrayMode::Close(array)))
+    array_judged(fits, at, array)
 }
 
 /// A term is read in its bracket.
@@ -306,6 +358,24 @@ fn on_array_head(
     Ok(ArrayTurn::Goes(ArrayMode::Wanted))
 }
 
+/// An array term is closed.
+fn array_closed(
+    alloc: Global,
+    arrays: &mut Items<ArrayFrame>,
+    array: ArrayTerm,
+) -> Result<ArrayTurn, TermReadFault>
+    requires array { IsFineArray (array_tree array) }
+    requires rest { HoldArrays (array_frames_of arrays.old) }
+    ensures turn { ArrayTurns (spec.on_array_close (array_frames_of arrays.old) (array_tree array) closes 0) result (array_frames_of arrays.new) }
+    ensures fine { ArrayGoesFine result (array_frames_of arrays.new) }
+{
+    if is_high(&array) {
+        Err(TermReadFault::Term(TermFault::TermTooHigh))
+    } else {
+        array_given(alloc, arrays, array)
+    }
+}
+
 /// A word where the `)` of an array term is wanted.
 fn on_array_close(
     alloc: Global,
@@ -320,13 +390,7 @@ fn on_array_close(
     ensures fine { ArrayGoesFine result (array_frames_of arrays.new) }
 {
     match word {
-        Word::Close => {
-            if is_high(&array) {
-                Err(TermReadFault::Term(TermFault::TermTooHigh))
-            } else {
-                array_given(alloc, arrays, array)
-            }
-        }
+        Word::Close => array_closed(alloc, arrays, array),
         _ => Err(TermReadFault::Form { at }),
     }
 }
@@ -348,6 +412,25 @@ fn is_high(array: &ArrayTerm) -> bool
     highest >= HIGHEST
 }
 
+/// What a word of a term in its bracket leads to.
+fn in_turn(
+    alloc: Global,
+    slot: Slot,
+    stack: Items<Frame>,
+    turn: Result<Turn, TermReadFault>,
+) -> Result<ArrayTurn, TermReadFault>
+    requires slot { IsFineSlot (slot_view slot) }
+    requires fine { GoesFine turn (frames_of stack) }
+    ensures turn { (a : _) (t : _) → Turns t turn (frames_of stack) → ArrayTurns (spec.in_turn a (slot_view slot) t) result a }
+    ensures fine { (a : _) → HoldArrays a → ArrayGoesFine result a }
+{
+    match turn {
+        Ok(Turn::Goes(mode)) => Ok(ArrayTurn::Goes(ArrayMode::InTerm { slot, stack, mode })),
+        Ok(Turn::Ends(term)) => filled(alloc, slot, term),
+        Err(fault) => Err(fault),
+    }
+}
+
 /// The next word of a term in its bracket, inside so many open brackets.
 fn in_term(
     alloc: Global,
@@ -367,11 +450,8 @@ fn in_term(
     ensures turn { (a : _) → ArrayTurns (spec.in_turn a (slot_view slot) (spec.step scope.now deep (frames_of stack) (mode_view mode) (record { word = word_view word.entry; at = at }))) result a }
     ensures fine { (a : _) → HoldArrays a → ArrayGoesFine result a }
 {
-    match step(alloc, scope, deep, &mut stack, mode, word, at) {
-        Ok(Turn::Goes(mode)) => Ok(ArrayTurn::Goes(ArrayMode::InTerm { slot, stack, mode })),
-        Ok(Turn::Ends(term)) => filled(alloc, slot, term),
-        Err(fault) => Err(fault),
-    }
+    let turn = step(alloc, scope, deep, &mut stack, mode, word, at);
+    in_turn(alloc, slot, stack, turn)
 }
 
 /// The next word of an array term.

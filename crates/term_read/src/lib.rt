@@ -5,6 +5,5 @@ mod array_reading;
 pub mod laws;
 mod reading;
 mod term_reading;
-mod words;
 
 pub use reading::{ArrayAt, TermAt, TermReadFault, read_array, read_term};

@@ -1,20 +1,20 @@
 //! Reads terms and array terms.
 
-ghost use Rattle.std.specs.Prelude.{◌≡◌, ◌≤◌, ◌<◌, length, IfOk, Ok};
+ghost use Rattle.std.specs.Prelude.{◌≡◌, ◌≤◌, ◌<◌, [], length, IfOk, Ok};
 ghost use Rattle.lex_core.specs.Lexing.{cut};
 ghost use Rattle.term_tree.specs.Terms.{IsTerm, IsArrayTerm};
 ghost use Rattle.term_tree.specs.View.{tree, array_tree};
 ghost use Rattle.term_tree.specs.Divisions.{HasNoDivision, ArrayHasNoDivision};
 ghost use Rattle.term_read.specs.Reading.{term_from, array_from};
-ghost use Rattle.term_read.specs.ReadingView.{Reads, term_at_view, array_at_view, AreDistinct, AreWidths};
+ghost use Rattle.term_read.specs.ReadingView.{frames_of, array_frames_of, Reads, term_at_view, array_at_view, AreDistinct, AreWidths};
 
-use crate::array_reading::{ArrayMode, ArrayTurn, array_step};
-use crate::term_reading::{Mode, Turn, step};
-use crate::words::token_word;
+use crate::array_reading::{ArrayFrame, ArrayMode, ArrayTurn, array_step};
+use crate::term_reading::{Frame, Mode, Turn, step};
 use lex_core::{NoMemory, Token};
 use sqlite_items::Items;
 use std::alloc::{AllocError, Global};
 use term_tree::{ArrayTerm, Term, TermFault, VarDecl};
+use term_words::token_word;
 
 /// Why no term can be read. A place is the number of bytes before it in the text.
 #[derive(Debug, Clone, Copy, PartialEq, Eq)]
@@ -72,6 +72,48 @@ pub struct ArrayAt {
     pub next: usize,
 }
 
+/// Reads a term word by word, with no bracket open at first.
+fn term_among(
+    alloc: Global,
+    text: &[u8],
+    tokens: &[Token],
+    from: usize,
+    scope: &[VarDecl],
+    stack: &mut Items<Frame>,
+) -> Result<TermAt, TermReadFault>
+    requires none { frames_of stack.old ≡ [] }
+    requires tokens { cut text.now ≡ Ok tokens.now }
+    requires within { from ≤ length tokens.now }
+    requires names { AreDistinct scope.now }
+    requires widths { AreWidths scope.now }
+    ensures exact { Reads term_at_view (term_from text.now tokens.now from scope.now) result }
+    ensures term { IfOk result (λ t. IsTerm (tree t.term)) }
+    ensures no_division { IfOk result (λ t. HasNoDivision (tree t.term)) }
+    ensures next { IfOk result (λ t. (from < t.next) × (t.next ≤ length tokens.now)) }
+{
+    let mut mode = Mode::Wanted;
+    for number in from..tokens.len() {
+        let token = &tokens[number];
+        match step(
+            alloc,
+            scope,
+            0,
+            stack,
+            mode,
+            token_word(text, token),
+            token.from,
+        ) {
+            Ok(Turn::Goes(next)) => mode = next,
+            Ok(Turn::Ends(term)) => {
+                let next = number + 1;
+                return Ok(TermAt { term, next });
+            }
+            Err(fault) => return Err(fault),
+        }
+    }
+    Err(TermReadFault::Form { at: text.len() })
+}
+
 /// Reads the term that begins at the token of number `from`, in a scope of variables whose names differ and whose widths
 /// are 1 to 128. The tokens are those of the text, and `from` is at most their number.
 ///
@@ -99,22 +141,43 @@ pub fn read_term(
     ensures next { IfOk result (λ t. (from < t.next) × (t.next ≤ length tokens.now)) }
 {
     let mut stack = Items::new(alloc);
-    let mut mode = Mode::Wanted;
+    term_among(alloc, text, tokens, from, scope, &mut stack)
+}
+
+/// Reads an array term word by word, with no bracket open at first.
+fn array_among(
+    alloc: Global,
+    text: &[u8],
+    tokens: &[Token],
+    from: usize,
+    scope: &[VarDecl],
+    arrays: &mut Items<ArrayFrame>,
+) -> Result<ArrayAt, TermReadFault>
+    requires none { array_frames_of arrays.old ≡ [] }
+    requires tokens { cut text.now ≡ Ok tokens.now }
+    requires within { from ≤ length tokens.now }
+    requires names { AreDistinct scope.now }
+    requires widths { AreWidths scope.now }
+    ensures exact { Reads array_at_view (array_from text.now tokens.now from scope.now) result }
+    ensures term { IfOk result (λ f. IsArrayTerm (array_tree f.array)) }
+    ensures no_division { IfOk result (λ f. ArrayHasNoDivision (array_tree f.array)) }
+    ensures next { IfOk result (λ f. (from < f.next) × (f.next ≤ length tokens.now)) }
+{
+    let mut mode = ArrayMode::Wanted;
     for number in from..tokens.len() {
         let token = &tokens[number];
-        match step(
+        match array_step(
             alloc,
             scope,
-            0,
-            &mut stack,
+            arrays,
             mode,
             token_word(text, token),
             token.from,
         ) {
-            Ok(Turn::Goes(next)) => mode = next,
-            Ok(Turn::Ends(term)) => {
+            Ok(ArrayTurn::Goes(next)) => mode = next,
+            Ok(ArrayTurn::Ends(array)) => {
                 let next = number + 1;
-                return Ok(TermAt { term, next });
+                return Ok(ArrayAt { array, next });
             }
             Err(fault) => return Err(fault),
         }
@@ -146,24 +209,5 @@ pub fn read_array(
     ensures next { IfOk result (λ f. (from < f.next) × (f.next ≤ length tokens.now)) }
 {
     let mut arrays = Items::new(alloc);
-    let mut mode = ArrayMode::Wanted;
-    for number in from..tokens.len() {
-        let token = &tokens[number];
-        match array_step(
-            alloc,
-            scope,
-            &mut arrays,
-            mode,
-            token_word(text, token),
-            token.from,
-        ) {
-            Ok(ArrayTurn::Goes(next)) => mode = next,
-            Ok(ArrayTurn::Ends(array)) => {
-                let next = number + 1;
-                return Ok(ArrayAt { array, next });
-            }
-            Err(fault) => return Err(fault),
-        }
-    }
-    Err(TermReadFault::Form { at: text.len() })
+    array_among(alloc, text, tokens, from, scope, &mut arrays)
 }

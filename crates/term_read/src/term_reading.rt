@@ -8,14 +8,13 @@ ghost use Rattle.term_tree.specs.Terms.{lit, var, IsTerm, IsTyped, height, width
 ghost use Rattle.term_make.specs.Making.{make, within_height};
 ghost use Rattle.term_tree.specs.View.{tree};
 ghost use Rattle.term_make.specs.Answers.{Answers};
-ghost use Rattle.term_read.specs.WordView.{word_view, IsFineWord};
-ghost use Rattle.term_read.specs.Scopes.{sort_of as sort_in};
-ghost use Rattle.term_read.specs.Operators.{arity as arity_of};
+ghost use Rattle.term_words.specs.WordView.{word_view, IsFineWord};
+ghost use Rattle.term_words.specs.Scopes.{sort_of as sort_in};
+ghost use Rattle.term_words.specs.Operators.{arity as arity_of};
 ghost use Rattle.term_read.specs.Reading as spec;
 ghost use Rattle.term_read.specs.ReadingView.{frame_view, frames_of, mode_view, whole_view, Turns, AreTerms, HoldTerms, IsFine, IsFineWhole, GoesFine, AreWidths};
 
 use crate::reading::TermReadFault;
-use crate::words::{Word, arity, operator, sort_of};
 use bv_bits::{Bits, Op};
 use lex_core::{Name, NoMemory};
 use sqlite_items::Items;
@@ -23,6 +22,7 @@ use std::alloc::Global;
 use term_make::make;
 use term_select::byte_of_variable;
 use term_tree::{Sort, Term, TermFault, VarDecl, width};
+use term_words::{Word, arity, operator, sort_of};
 
 /// How deep brackets nest at most.
 pub const DEEPEST: usize = 1024;

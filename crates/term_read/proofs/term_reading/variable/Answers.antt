@@ -1,6 +1,6 @@
 use Rattle.std.proofs.Common.{◌≡◌, Some}
 use Rattle.term_tree.specs.declared.term.Sort.TheVariants as sort
-use Rattle.term_read.specs.Scopes.{sort_of}
+use Rattle.term_words.specs.Scopes.{sort_of}
 use Rattle.term_read.proofs.ReadingLemmas.{declared_width}
 use Rattle.term_read.proofs.term_reading.variable.Goals as goal
 

@@ -1,5 +1,0 @@
-use Rattle.term_read.proofs.PrintedReadLemmas.{printed_read}
-use Rattle.term_read.proofs.laws.printed_is_read.Goals as goal
-
-pub returns : goal.returns
-returns c = printed_read

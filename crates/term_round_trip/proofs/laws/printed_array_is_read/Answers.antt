@@ -1,0 +1,5 @@
+use Rattle.term_round_trip.proofs.PrintedReadLemmas.{printed_array_read}
+use Rattle.term_round_trip.proofs.laws.printed_array_is_read.Goals as goal
+
+pub returns : goal.returns
+returns c = printed_array_read

@@ -1,0 +1,3 @@
+pub mod DeclaredTerms
+pub mod ReadBackLaws
+pub mod WordLaws
