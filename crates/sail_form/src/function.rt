@@ -58,11 +58,18 @@ fn front(alloc: Global) -> Result<(Name, Items<Param>), NoMemory>
     Ok((name, params))
 }
 
-/// `function instr(op : bits(32)) -> unit = body`.
-fn instr(alloc: Global, at: usize, body: Expr) -> Result<Def, NoMemory>
-    ensures { IfOk result (λ d. definition_of d ≡ instr_with at (tree body)) }
+/// `function instr(op : bits(32)) -> unit = match op { arms }`, from the places of `function`, of `match` and of `op`.
+fn instr(
+    alloc: Global,
+    at: usize,
+    match_at: usize,
+    on_at: usize,
+    arms: Items<Arm>,
+) -> Result<Def, NoMemory>
+    ensures { IfOk result (λ d. definition_of d ≡ instr_with at (match_tree match_at on_at (map choice_of arms))) }
 {
     let (name, params) = front(alloc)?;
+    let body = match_op(alloc, match_at, on_at, arms)?;
     Ok(Def::Function {
         name,
         params,
@@ -101,5 +108,5 @@ pub fn function(
     if !reader.takes_one(CLOSE) {
         return Ok(None);
     }
-    Ok(Some(instr(alloc, at, match_op(alloc, match_at, on_at, arms)?)?))
+    Ok(Some(instr(alloc, at, match_at, on_at, arms)?))
 }

@@ -1,6 +1,6 @@
 //! Reads a text of the form.
 
-ghost use Rattle.std.specs.Prelude.{◌≡◌, ◌≤◌, ◌<◌, ◌^◌, ◌++◌, IfOk, IfSome, length, map, option_to_list};
+ghost use Rattle.std.specs.Prelude.{◌≡◌, ◌≤◌, ◌<◌, ◌^◌, ◌++◌, None, IfOk, IfSome, if◌then◌else◌, length, map, option_to_list};
 ghost use Rattle.std.specs.Option.{option_map};
 ghost use Rattle.sail_eval.specs.Quiet.{IsQuietProgram};
 ghost use Rattle.sail_types.specs.Typing.{HasWidths, IsCountable};
@@ -8,7 +8,7 @@ ghost use Rattle.sail_syntax.specs.Program.{registers_of};
 ghost use Rattle.sail_syntax.specs.View.{definition_of, program_of};
 ghost use Rattle.sail_form.specs.SailFormHolds.{FunctionFits, RegistersFit};
 ghost use Rattle.sail_rules.specs.SailForm as spec;
-ghost use Rattle.sail_rules.specs.SailForm.{sail_form};
+ghost use Rattle.sail_rules.specs.SailForm.{alone, sail_form};
 ghost use Rattle.sail_rules.specs.SailFormSyntax.{instr_definition, program};
 ghost use Rattle.sail_words.specs.SailFormNames.{names_of};
 
@@ -19,6 +19,26 @@ use sail_syntax::{Def, Program, registers};
 use sail_words::{Reader, Word, are_names, words};
 use sqlite_items::Items;
 use std::alloc::Global;
+
+/// The function, where it is the last.
+fn where_last(is_last: bool, function: Option<Def>) -> Option<Def>
+    ensures { result ≡ if is_last then function else None }
+{
+    if is_last { function } else { None }
+}
+
+/// Takes the function, behind which nothing stands.
+fn last(
+    reader: &mut Reader<'_>,
+    alloc: Global,
+    registers: &[RegDecl],
+) -> Result<Option<Def>, NoMemory>
+    ensures { IfOk result (λ d. option_map definition_of d
+        ≡ option_map instr_definition (alone (spec.instr (names_of registers.now) reader.old.rest.now))) }
+{
+    let function = function(reader, alloc, registers)?;
+    Ok(where_last(reader.rest.is_empty(), function))
+}
 
 /// Takes the function to the end, or nothing at the end.
 fn ending(
@@ -35,13 +55,10 @@ fn ending(
     if let [] = registers {
         return Ok(None);
     }
-    let Some(function) = function(reader, alloc, registers)? else {
-        return Ok(None);
-    };
-    if let [_, ..] = reader.rest {
-        return Ok(None);
+    match last(reader, alloc, registers)? {
+        Some(function) => Ok(Some(Some(function))),
+        None => Ok(None),
     }
-    Ok(Some(Some(function)))
 }
 
 /// The program with the function, if there is one, at the end.

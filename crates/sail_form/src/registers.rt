@@ -1,6 +1,6 @@
 //! Reads the order of bits and the registers.
 
-ghost use Rattle.std.specs.Prelude.{◌≡◌, IfOk, map};
+ghost use Rattle.std.specs.Prelude.{◌≡◌, true, IfOk, map};
 ghost use Rattle.std.specs.Option.{option_map};
 ghost use Rattle.sail_syntax.specs.View.{definition_of};
 ghost use Rattle.sail_rules.specs.SailForm as spec;
@@ -49,14 +49,22 @@ pub fn definitions(reader: &mut Reader<'_>, alloc: Global) -> Result<Items<Def>,
     Ok(all)
 }
 
+/// The order of bits alone.
+fn order_alone(alloc: Global) -> Result<Items<Def>, NoMemory>
+    ensures { IfOk result (λ ds. map definition_of ds ≡ order_definitions true) }
+{
+    let mut defs = Items::new(alloc);
+    defs.push(Def::Order)?;
+    Ok(defs)
+}
+
 /// Takes the order of bits, if it is written.
 pub fn order(reader: &mut Reader<'_>, alloc: Global) -> Result<Items<Def>, NoMemory>
     ensures defs { IfOk result (λ ds. map definition_of ds ≡ order_definitions (maybe order_words reader.old.rest.now).0) }
     ensures rest { IfOk result (λ _. reader.new.rest.now ≡ (maybe order_words reader.old.rest.now).1) }
 {
-    let mut defs = Items::new(alloc);
     if reader.maybe(&ORDER) {
-        defs.push(Def::Order)?;
+        return order_alone(alloc);
     }
-    Ok(defs)
+    Ok(Items::new(alloc))
 }
