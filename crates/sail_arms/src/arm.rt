@@ -6,7 +6,7 @@ ghost use Rattle.sail_syntax.specs.View.{choice_of};
 ghost use Rattle.sail_rules.specs.SailForm as spec;
 ghost use Rattle.sail_rules.specs.SailFormSyntax.{arm_case, arm_cases};
 ghost use Rattle.sail_words.specs.SailFormNames.{names_of};
-ghost use Rattle.sail_words.specs.SailFormReading.{Reads, turned, each, all, behind, row};
+ghost use Rattle.sail_words.specs.SailFormReading.{Reads, turned, each, all, behind, row, with_first};
 
 use crate::assignments::steps;
 use bv_bits::Bits;
@@ -64,16 +64,18 @@ fn next_arm(
     arm(reader, alloc, registers)
 }
 
-/// Takes `,` and an arm, as often as they stand there.
-fn next_arms(
+/// Takes `,` and an arm, as often as they stand there, behind a first arm.
+fn arms_from(
     reader: &mut Reader<'_>,
     alloc: Global,
     registers: &[RegDecl],
+    first: Arm,
 ) -> Result<Items<Arm>, NoMemory>
     ensures { IfOk result (λ xs. (map choice_of xs, reader.new.rest.now)
-        ≡ each arm_case (all (behind (codes ",") (spec.arm (names_of registers.now))) reader.old.rest.now)) }
+        ≡ with_first (choice_of first) (each arm_case (all (behind (codes ",") (spec.arm (names_of registers.now))) reader.old.rest.now))) }
 {
     let mut arms = Items::new(alloc);
+    arms.push(first)?;
     let mut rest = reader.rest;
     while let Some(arm) = next_arm(reader, alloc, registers)? {
         arms.push(arm)?;
@@ -93,11 +95,8 @@ pub fn arms(
     ensures { IfOk result (λ xs. Reads (turned arm_cases (row (codes ",") (spec.arm (names_of registers.now)) reader.old.rest.now))
         (option_map (map choice_of) xs) reader.new.rest.now) }
 {
-    let Some(first) = arm(reader, alloc, registers)? else {
-        return Ok(None);
-    };
-    let mut arms = Items::new(alloc);
-    arms.push(first)?;
-    arms.append(next_arms(reader, alloc, registers)?)?;
-    Ok(Some(arms))
+    match arm(reader, alloc, registers)? {
+        Some(first) => Ok(Some(arms_from(reader, alloc, registers, first)?)),
+        None => Ok(None),
+    }
 }

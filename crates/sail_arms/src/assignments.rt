@@ -6,13 +6,13 @@ ghost use Rattle.sail_syntax.specs.View.{tree, step_of};
 ghost use Rattle.sail_rules.specs.SailForm as spec;
 ghost use Rattle.sail_rules.specs.SailFormSyntax.{assignment_tree, step};
 ghost use Rattle.sail_words.specs.SailFormNames.{names_of};
-ghost use Rattle.sail_words.specs.SailFormReading.{Reads, turned, each, all, behind, row};
+ghost use Rattle.sail_words.specs.SailFormReading.{Reads, turned, each, all, behind, row, with_first};
 
 use crate::operands::sum;
 use lex_core::{NoMemory, RegDecl};
 use sail_syntax::{Expr, Node, Stmt};
 use sail_words::{EQUALS, Reader, SEMICOLON, is_declared};
-use sqlite_items::{Boxed, Items};
+use sqlite_items::Items;
 use std::alloc::Global;
 
 /// Takes an assignment.
@@ -38,7 +38,6 @@ fn assignment(
     let Some(by) = sum(reader, alloc, registers)? else {
         return Ok(None);
     };
-    let by = Boxed::new(alloc, by)?;
     Ok(Some(Expr {
         at,
         node: Node::Assign { to, by },
@@ -63,16 +62,18 @@ fn next_step(
     Ok(Some(Stmt::Do(assignment)))
 }
 
-/// Takes `;` and an assignment, as often as they stand there.
-fn next_steps(
+/// Takes `;` and an assignment, as often as they stand there, behind a first assignment.
+fn steps_from(
     reader: &mut Reader<'_>,
     alloc: Global,
     registers: &[RegDecl],
+    first: Stmt,
 ) -> Result<Items<Stmt>, NoMemory>
     ensures { IfOk result (λ ss. (map step_of ss, reader.new.rest.now)
-        ≡ each step (all (behind (codes ";") (spec.assignment (names_of registers.now))) reader.old.rest.now)) }
+        ≡ with_first (step_of first) (each step (all (behind (codes ";") (spec.assignment (names_of registers.now))) reader.old.rest.now))) }
 {
     let mut steps = Items::new(alloc);
+    steps.push(first)?;
     let mut rest = reader.rest;
     while let Some(step) = next_step(reader, alloc, registers)? {
         steps.push(step)?;
@@ -92,13 +93,12 @@ pub fn steps(
     ensures { IfOk result (λ ss. (map step_of ss, reader.new.rest.now)
         ≡ each step (spec.steps (names_of registers.now) reader.old.rest.now)) }
 {
-    let mut steps = Items::new(alloc);
     let before = reader.rest;
-    let Some(first) = assignment(reader, alloc, registers)? else {
-        reader.rest = before;
-        return Ok(steps);
-    };
-    steps.push(Stmt::Do(first))?;
-    steps.append(next_steps(reader, alloc, registers)?)?;
-    Ok(steps)
+    match assignment(reader, alloc, registers)? {
+        Some(first) => steps_from(reader, alloc, registers, Stmt::Do(first)),
+        None => {
+            reader.rest = before;
+            Ok(Items::new(alloc))
+        }
+    }
 }

@@ -12,7 +12,7 @@ use bv_bits::Bits;
 use lex_core::{Literal, Name, NoMemory, RegDecl};
 use sail_syntax::{Expr, Infix, Node};
 use sail_words::{Meaning, PLUS, Reader, Word, is_declared};
-use sqlite_items::Items;
+use sqlite_items::{Boxed, Items};
 use std::alloc::Global;
 
 /// A register as an operand, if it is declared.
@@ -62,21 +62,23 @@ fn operand_of(alloc: Global, registers: &[RegDecl], word: &Word) -> Result<Optio
 }
 
 /// The sum of the operands: the first itself, or a chain that begins where it does.
-fn sum_of(alloc: Global, first: Expr, more: Items<Expr>) -> Result<Expr, NoMemory>
+fn sum_of(
+    alloc: Global,
+    first: Boxed<Expr>,
+    more: Items<Expr>,
+) -> Result<Boxed<Expr>, NoMemory>
     ensures { IfOk result (λ e. tree e ≡ total (tree first) (map tree more)) }
 {
     if more.is_empty() {
         return Ok(first);
     }
-    let at = first.at;
+    let at = first.get().at;
     let mut parts = Items::new(alloc);
-    parts.push(first)?;
+    parts.push(first.into_inner())?;
     parts.append(more)?;
     let op = Infix::Add;
-    Ok(Expr {
-        at,
-        node: Node::Chain { op, parts },
-    })
+    let node = Node::Chain { op, parts };
+    Ok(Boxed::new(alloc, Expr { at, node })?)
 }
 
 /// Takes an operand.
@@ -137,13 +139,14 @@ pub fn sum(
     reader: &mut Reader<'_>,
     alloc: Global,
     registers: &[RegDecl],
-) -> Result<Option<Expr>, NoMemory>
+) -> Result<Option<Boxed<Expr>>, NoMemory>
     ensures { IfOk result (λ e. Reads (turned sum_tree (row (codes "+") (spec.operand (names_of registers.now)) reader.old.rest.now))
         (option_map tree e) reader.new.rest.now) }
 {
     let Some(first) = operand(reader, alloc, registers)? else {
         return Ok(None);
     };
+    let first = Boxed::new(alloc, first)?;
     let more = next_operands(reader, alloc, registers)?;
     Ok(Some(sum_of(alloc, first, more)?))
 }
