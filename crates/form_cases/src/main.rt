@@ -22,18 +22,33 @@ use std::io;
 /// No file of the data is longer.
 const LONGEST: u64 = 65536;
 
+/// What the text with escapes says as a Sail text.
+fn sail_case(alloc: Global, rest: &str) -> Result<String, NoMemory> {
+    let text = bytes_of(alloc, rest)?;
+    sail(alloc, text.as_slice())
+}
+
+/// What the text with escapes says as a proof file.
+fn proof_case(alloc: Global, rest: &str) -> Result<String, NoMemory> {
+    let text = bytes_of(alloc, rest)?;
+    proof(alloc, text.as_slice())
+}
+
+/// What the changed text says as a proof file.
+fn change_case(alloc: Global, base: &str, rest: &str) -> Result<String, NoMemory> {
+    let text = changed(alloc, base, rest)?;
+    proof(alloc, text.as_slice())
+}
+
 /// What the case on this line comes to. `base` is the proof file in the data.
 fn case(alloc: Global, base: &str, line: &str) -> Result<String, NoMemory> {
     let (what, rest) = cut_word(line);
     if what == "sail" {
-        let text = bytes_of(alloc, rest)?;
-        sail(alloc, text.as_slice())
+        sail_case(alloc, rest)
     } else if what == "proof" {
-        let text = bytes_of(alloc, rest)?;
-        proof(alloc, text.as_slice())
+        proof_case(alloc, rest)
     } else if what == "change" {
-        let text = changed(alloc, base, rest)?;
-        proof(alloc, text.as_slice())
+        change_case(alloc, base, rest)
     } else if what == "constants" {
         constants_of(alloc, base, rest)
     } else {
@@ -54,6 +69,17 @@ fn data<F: files_core::Files>(
     }
 }
 
+/// Prints a line and what its case comes to.
+fn tell(rt: &HostRuntime, base: &str, line: &str) -> io::Result<()> {
+    if is_comment(line) {
+        return println!(rt; "{line}");
+    }
+    match case(rt.alloc(), base, line) {
+        Ok(told) => println!(rt; "{line} = {told}"),
+        Err(NoMemory) => println!(rt; "{line} = no memory"),
+    }
+}
+
 fn main(rt: HostRuntime) -> io::Result<()> {
     let alloc = rt.alloc();
     let mut files = HostFiles::new(alloc, &rt);
@@ -62,14 +88,7 @@ fn main(rt: HostRuntime) -> io::Result<()> {
     };
     for line in rt.lines(alloc) {
         let line = line?;
-        if is_comment(line.as_str()) {
-            println!(rt; "{line}")?;
-            continue;
-        }
-        match case(alloc, base.as_str(), line.as_str()) {
-            Ok(told) => println!(rt; "{line} = {told}")?,
-            Err(NoMemory) => println!(rt; "{line} = no memory")?,
-        }
+        tell(&rt, base.as_str(), line.as_str())?;
     }
     Ok(())
 }

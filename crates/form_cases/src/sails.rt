@@ -4,7 +4,7 @@
 //! is followed by `@` and its place.
 
 use case_lines::spelled;
-use lex_core::NoMemory;
+use lex_core::{Name, NoMemory};
 use sail_form::read_sail;
 use sail_syntax::{Arm, Def, Expr, Node, Pattern, Stmt};
 use std::alloc::Global;
@@ -79,32 +79,43 @@ fn arms(alloc: Global, body: &Expr) -> Result<String, NoMemory> {
     Ok(all)
 }
 
+/// A register.
+fn register(alloc: Global, name: &Name, width: u32, at: usize) -> Result<String, NoMemory> {
+    let name = spelled(alloc, name.bytes())?;
+    Ok(format!(in alloc; " {name}:{width}@{at}")?)
+}
+
+/// A function.
+fn function(alloc: Global, name: &Name, body: &Expr, at: usize) -> Result<String, NoMemory> {
+    let name = spelled(alloc, name.bytes())?;
+    let arms = arms(alloc, body)?;
+    Ok(format!(in alloc; " {name}@{at} {arms}")?)
+}
+
 /// A definition.
 fn definition(alloc: Global, def: &Def) -> Result<String, NoMemory> {
     match def {
         Def::Order => Ok(String::from_str(alloc, " order")?),
-        Def::Register { name, width, at } => {
-            let name = spelled(alloc, name.bytes())?;
-            Ok(format!(in alloc; " {name}:{width}@{at}")?)
-        }
-        Def::Function { name, body, at, .. } => {
-            let name = spelled(alloc, name.bytes())?;
-            let arms = arms(alloc, body)?;
-            Ok(format!(in alloc; " {name}@{at} {arms}")?)
-        }
+        Def::Register { name, width, at } => register(alloc, name, *width, *at),
+        Def::Function { name, body, at, .. } => function(alloc, name, body, *at),
         _ => Ok(String::from_str(alloc, " ?")?),
     }
 }
 
-/// The definitions of the program that the text is.
-pub fn sail(alloc: Global, text: &[u8]) -> Result<String, NoMemory> {
-    let Some(program) = read_sail(alloc, text)? else {
-        return Ok(String::from_str(alloc, "outside")?);
-    };
+/// The definitions of a program.
+fn definitions(alloc: Global, defs: &[Def]) -> Result<String, NoMemory> {
     let mut all = String::from_str(alloc, "program")?;
-    for def in program.defs.as_slice() {
+    for def in defs {
         let one = definition(alloc, def)?;
         all.push_str(one.as_str())?;
     }
     Ok(all)
+}
+
+/// The definitions of the program that the text is.
+pub fn sail(alloc: Global, text: &[u8]) -> Result<String, NoMemory> {
+    match read_sail(alloc, text)? {
+        Some(program) => definitions(alloc, program.defs.as_slice()),
+        None => Ok(String::from_str(alloc, "outside")?),
+    }
 }

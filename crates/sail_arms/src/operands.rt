@@ -62,11 +62,7 @@ fn operand_of(alloc: Global, registers: &[RegDecl], word: &Word) -> Result<Optio
 }
 
 /// The sum of the operands: the first itself, or a chain that begins where it does.
-fn sum_of(
-    alloc: Global,
-    first: Boxed<Expr>,
-    more: Items<Expr>,
-) -> Result<Boxed<Expr>, NoMemory>
+fn sum_of(alloc: Global, first: Boxed<Expr>, more: Items<Expr>) -> Result<Boxed<Expr>, NoMemory>
     ensures { IfOk result (λ e. tree e ≡ total (tree first) (map tree more)) }
 {
     if more.is_empty() {
