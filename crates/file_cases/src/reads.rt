@@ -2,7 +2,7 @@
 
 use crate::parsing::count_of;
 use case_lines::{number_64, spelled};
-use files_core::{Files, InFault, read_all};
+use files_core::{Files, InFault, ReadAnswer, read_all};
 use lex_core::NoMemory;
 use std::alloc::Global;
 
@@ -34,6 +34,23 @@ fn whole<F: Files>(
     }
 }
 
+/// The answer of one read into the buffer, or the front of it.
+fn answered<F: Files>(
+    files: &mut F,
+    name: &str,
+    at: u64,
+    room: usize,
+    buffer: &mut [u8; 4],
+) -> ReadAnswer {
+    files.read_at(name, at, &mut buffer[..room.min(4)])
+}
+
+/// An answer, and what the buffer holds.
+fn with_buffer(alloc: Global, answer: ReadAnswer, buffer: &[u8]) -> Result<String, NoMemory> {
+    let bytes = spelled(alloc, buffer)?;
+    Ok(format!(in alloc; "{answer:?}[{bytes}]")?)
+}
+
 /// The answer of one read, and what the buffer of four nines holds behind it.
 fn piece<F: Files>(
     alloc: Global,
@@ -42,11 +59,10 @@ fn piece<F: Files>(
     place: &str,
 ) -> Result<String, NoMemory> {
     let (at, room) = place.split_once('/').unwrap_or((place, "4"));
-    let mut buffer = [9u8; 4];
     let at = number_64(at).unwrap_or(0);
-    let answer = files.read_at(name, at, &mut buffer[..count_of(room).min(4)]);
-    let bytes = spelled(alloc, &buffer)?;
-    Ok(format!(in alloc; "{answer:?}[{bytes}]")?)
+    let mut buffer = [9u8; 4];
+    let answer = answered(files, name, at, count_of(room), &mut buffer);
+    with_buffer(alloc, answer, &buffer)
 }
 
 /// What one read comes to.

@@ -5,18 +5,29 @@ use files_core::{OutFault, Sink, write_all};
 use lex_core::NoMemory;
 use std::alloc::Global;
 
+/// What the write of one piece comes to.
+fn one<S: Sink>(alloc: Global, sink: &mut S, text: &[u8]) -> Result<String, NoMemory> {
+    let answer = sink.write(text);
+    Ok(format!(in alloc; "{answer:?}")?)
+}
+
+/// What the write of a whole text comes to.
+fn all<S: Sink>(alloc: Global, sink: &mut S, text: &[u8]) -> Result<String, NoMemory> {
+    match write_all(sink, text) {
+        Ok(()) => Ok(String::from_str(alloc, "Ok")?),
+        Err(OutFault::NoMemory) => Err(NoMemory),
+        Err(fault) => Ok(format!(in alloc; "{fault:?}")?),
+    }
+}
+
 /// What one write comes to.
 fn write<S: Sink>(alloc: Global, sink: &mut S, asked: &str) -> Result<String, NoMemory> {
     let (what, text) = asked.split_once('/').unwrap_or((asked, ""));
     let text = content(alloc, text)?;
     if what == "one" {
-        let answer = sink.write(&text);
-        return Ok(format!(in alloc; "{answer:?}")?);
-    }
-    match write_all(sink, &text) {
-        Ok(()) => Ok(String::from_str(alloc, "Ok")?),
-        Err(OutFault::NoMemory) => Err(NoMemory),
-        Err(fault) => Ok(format!(in alloc; "{fault:?}")?),
+        one(alloc, sink, &text)
+    } else {
+        all(alloc, sink, &text)
     }
 }
 
