@@ -9,14 +9,14 @@ fn number(word: &str) -> u64 {
     number_64(word).unwrap_or(0)
 }
 
-/// The byte that a word spells, and 0 for another word.
-fn byte(word: &str) -> u8 {
-    u8::try_from(number(word)).unwrap_or(0)
+/// The byte that a number is, and 0 for a greater one.
+fn byte(number: u64) -> u8 {
+    u8::try_from(number).unwrap_or(0)
 }
 
-/// The place or the count that a word spells, and 0 for another word.
-fn count(word: &str) -> usize {
-    usize::try_from(number(word)).unwrap_or(0)
+/// The place or the count that a number is, and 0 for one that is none.
+fn count(number: u64) -> usize {
+    usize::try_from(number).unwrap_or(0)
 }
 
 /// Takes a line whose first word is `bytes` or `text`, and says whether it is one.
@@ -42,6 +42,12 @@ fn change(file: &mut Vec<u8>, at: usize, byte: u8) {
     }
 }
 
+/// Adds equal bytes.
+fn fill(alloc: Global, file: &mut Vec<u8>, byte: u8, count: usize) -> Result<(), AllocError> {
+    let more = vec![in alloc; byte; count]?;
+    file.extend_from_slice(&more)
+}
+
 /// Adds program headers of loaded segments, each so far below the one before.
 fn add_programs(file: &mut Vec<u8>, fields: [u64; 4]) -> Result<(), AllocError> {
     let [count, first, step, memsz] = fields;
@@ -61,32 +67,54 @@ fn add_sections(file: &mut Vec<u8>, count: u64, fields: [u64; 5]) -> Result<(), 
     Ok(())
 }
 
-/// Takes a line that adds a header or a symbol, and says whether it is one.
-fn added(first: &str, words: &[&str], file: &mut Vec<u8>) -> Result<bool, AllocError> {
-    match (first, words) {
-        ("program", [a, b, c, d, e]) => {
-            program_header(
-                file,
-                [number(a), number(b), number(c), number(d), number(e)],
-            )?;
-        }
-        ("section", [a, b, c, d, e]) => {
-            section_header(
-                file,
-                [number(a), number(b), number(c), number(d), number(e)],
-            )?;
-        }
-        ("symbol", [a, b]) => symbol(file, [number(a), number(b)])?,
-        ("programs", [a, b, c, d]) => {
-            add_programs(file, [number(a), number(b), number(c), number(d)])?;
-        }
-        ("sections", [n, a, b, c, d, e]) => {
-            let fields = [number(a), number(b), number(c), number(d), number(e)];
-            add_sections(file, number(n), fields)?;
-        }
-        _ => return Ok(false),
+/// The number that the word with the index spells, and 0 where there is none.
+fn number_at(words: &[&str], index: usize) -> u64 {
+    match words.get(index) {
+        Some(word) => number(word),
+        None => 0,
     }
-    Ok(true)
+}
+
+/// The first five numbers, and 0 for each that is not there.
+fn five(words: &[&str]) -> [u64; 5] {
+    [
+        number_at(words, 0),
+        number_at(words, 1),
+        number_at(words, 2),
+        number_at(words, 3),
+        number_at(words, 4),
+    ]
+}
+
+/// The first four numbers.
+fn four(words: &[&str]) -> [u64; 4] {
+    [
+        number_at(words, 0),
+        number_at(words, 1),
+        number_at(words, 2),
+        number_at(words, 3),
+    ]
+}
+
+/// The numbers behind the first one.
+fn behind_first(words: &[&str]) -> [u64; 5] {
+    match words {
+        [_, rest @ ..] => five(rest),
+        [] => five(words),
+    }
+}
+
+/// Adds what a line with so many numbers says, and says whether there is such a line.
+fn added(first: &str, words: &[&str], file: &mut Vec<u8>) -> Result<bool, AllocError> {
+    let done = match first {
+        "program" => program_header(file, five(words)),
+        "section" => section_header(file, five(words)),
+        "symbol" => symbol(file, [number_at(words, 0), number_at(words, 1)]),
+        "programs" => add_programs(file, four(words)),
+        "sections" => add_sections(file, number_at(words, 0), behind_first(words)),
+        _ => return Ok(false),
+    };
+    done.map(|_| true)
 }
 
 /// Takes a line that begins or changes a file, and says whether it is one.
@@ -96,18 +124,13 @@ pub fn built(
     words: &[&str],
     file: &mut Vec<u8>,
 ) -> Result<bool, AllocError> {
-    match (first, words) {
-        ("new", []) => file.clear(),
-        ("elf", [a, b, c, d]) => {
-            file.clear();
-            elf(file, [number(a), number(b), number(c), number(d)])?;
-        }
-        ("fill", [value, n]) => {
-            let more = vec![in alloc; byte(value); count(n)]?;
-            file.extend_from_slice(&more)?;
-        }
-        ("byte", [at, value]) => change(file, count(at), byte(value)),
-        ("cut", [n]) => file.truncate(count(n)),
+    let [one, other, _, _] = four(words);
+    match first {
+        "new" => file.clear(),
+        "elf" => elf(file, four(words))?,
+        "fill" => fill(alloc, file, byte(one), count(other))?,
+        "byte" => change(file, count(one), byte(other)),
+        "cut" => file.truncate(count(one)),
         _ => return added(first, words, file),
     }
     Ok(true)
