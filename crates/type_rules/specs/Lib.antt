@@ -1,0 +1,9 @@
+pub mod Faults
+pub mod Names
+pub mod Rules
+pub mod Judge
+pub mod Heights
+pub mod Program
+pub mod HasType
+pub mod IsTyped
+pub mod Laws
