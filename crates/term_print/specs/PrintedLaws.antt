@@ -1,14 +1,15 @@
 -- What is printed is cut into the words of its term.
-use Rattle.std.specs.Prelude.{◌≡◌, ⊤, ◌%◌, ◌==◌, true, if◌then◌else◌, [], ◌∷◌}
+use Rattle.std.specs.Prelude.{◌≡◌, ⊤, true, [], ◌∷◌}
 use Rattle.std.specs.Str.{IsUtf8}
 use Rattle.bv_bits.specs.declared.Bits.{Bits}
 use Rattle.bv_bits.specs.Bits.{IsBits}
-use Rattle.lex_core.specs.declared.token.Kind.{Kind}
 use Rattle.lex_core.specs.declared.token.Kind.TheVariants as kind
 use Rattle.lex_core.specs.Forms.{has_form}
 use Rattle.term_tree.specs.Terms.{Text, Tree, lit, var, one, two, three, sel, ArrayTree, array, upd, splice, IsTyped, IsTypedArray}
 use Rattle.term_tree.specs.Divisions.{HasNoDivision, ArrayHasNoDivision}
-use Rattle.term_print.specs.Printing.{literal_text, term_text, array_text}
+use Rattle.bit_text.specs.Texts.{literal_text}
+use Rattle.bit_text.specs.TextLaws.{literal_kind}
+use Rattle.term_print.specs.Printing.{term_text, array_text}
 use Rattle.term_print.specs.Words.{literal, word_of}
 use Rattle.term_print.specs.Cutting.{IsCutInto, IsCutAs}
 use Rattle.term_print.specs.TermWords.{term_words, array_words}
@@ -31,10 +32,6 @@ abbrev pub ArrayHasNames : ArrayTree → Type 0
 ArrayHasNames (array f) = IsName f
 ArrayHasNames (upd of at by) = ArrayHasNames of × HasNames at × HasNames by
 ArrayHasNames (splice of below at) = ArrayHasNames of × ArrayHasNames below × HasNames at
-
--- the kind of the token that a literal's text is
-abbrev pub literal_kind : Bits → Kind
-literal_kind b = if b.width % 4 == 0 then kind.Hex else kind.Binary
 
 -- ---- laws
 

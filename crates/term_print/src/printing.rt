@@ -1,63 +1,19 @@
 //! Terms as text.
 
-ghost use Rattle.std.specs.Prelude.{◌≡◌, ◌+◌, ◌*◌, ◌/◌, ◌%◌, ◌^◌, ◌≤◌, ◌<◌, ◌++◌, [], ◌∷◌, false, IfOk, OnOk, codes, string_bytes};
+ghost use Rattle.std.specs.Prelude.{◌≡◌, ◌++◌, ◌∷◌, false, IfOk, OnOk, codes, string_bytes};
 ghost use Rattle.std.specs.Str.{IsUtf8};
 ghost use Rattle.std.specs.Str.Lossy.{utf8_lossy};
-ghost use Rattle.std.specs.Fmt as fmt;
-ghost use Rattle.bv_bits.specs.Bits.{IsBits};
 ghost use Rattle.term_tree.specs.Terms.{one, two, three, sel, upd, splice, IsTyped, IsTerm, IsTypedArray, IsArrayTerm};
 ghost use Rattle.term_tree.specs.View.{tree, array_tree};
 ghost use Rattle.term_print.specs.Printing as spec;
 ghost use Rattle.term_tree.specs.Divisions.{is_division, HasNoDivision, ArrayHasNoDivision};
-ghost use Rattle.term_print.specs.Printing.{term_text, array_text, literal_text, last_digits};
+ghost use Rattle.term_print.specs.Printing.{term_text, array_text};
 
-use bv_bits::{Bits, Op};
+use bit_text::{put_literal, put_number};
+use bv_bits::Op;
 use lex_core::{Name, NoMemory};
 use std::alloc::Global;
 use term_tree::{ArrayForm, ArrayTerm, Form, Term, array_form_of, form_of};
-
-/// A digit in lower case.
-fn digit(value: u8) -> u8
-    requires { value < 16 }
-    ensures { result ≡ spec.digit value }
-{
-    if value < 10 {
-        b'0' + value
-    } else {
-        b'a' - 10 + value
-    }
-}
-
-/// Appends the last digits of a number, that of highest weight first, at so many bits a digit.
-fn put_digits(out: &mut Vec<u8>, each: u32, count: u32, value: u128) -> Result<(), NoMemory>
-    requires some { 1 ≤ each }
-    requires few { each ≤ 4 }
-    requires fits { each * count ≤ 128 }
-    ensures { OnOk result (out.new.items ≡ out.old.items ++ last_digits each count value) }
-{
-    let mut left = count;
-    while left > 0 {
-        left -= 1;
-        let weighed = (value >> (each * left)) % (1 << each);
-        out.push(digit(weighed as u8))?;
-    }
-    Ok(())
-}
-
-/// Appends a literal.
-#[tactic(auto, unfolding(crate::specs::Printing::literal_text))]
-fn put_literal(out: &mut Vec<u8>, bits: Bits) -> Result<(), NoMemory>
-    requires { IsBits bits }
-    ensures { OnOk result (out.new.items ≡ out.old.items ++ literal_text bits) }
-{
-    if bits.width.is_multiple_of(4) {
-        out.extend_from_slice(b"0x")?;
-        put_digits(out, 4, bits.width / 4, bits.value)
-    } else {
-        out.extend_from_slice(b"0b")?;
-        put_digits(out, 1, bits.width, bits.value)
-    }
-}
 
 /// The word of an operator that is no division.
 fn op_word(op: Op) -> &'static [u8]
@@ -94,16 +50,6 @@ fn op_word(op: Op) -> &'static [u8]
         Op::SExt { to: _ } => b"sext",
         Op::Ite => b"ite",
     }
-}
-
-/// Appends a number in decimal digits, with a space before it.
-fn put_number(alloc: Global, out: &mut Vec<u8>, number: u32) -> Result<(), NoMemory>
-    ensures { OnOk result (out.new.items ≡ out.old.items ++ 32 ∷ fmt.decimal number) }
-{
-    let text = format!(in alloc; "{number}")?;
-    out.push(b' ')?;
-    out.extend_from_slice(&text.into_bytes())?;
-    Ok(())
 }
 
 /// Appends an opening bracket, an operator that is no division, and its numbers.

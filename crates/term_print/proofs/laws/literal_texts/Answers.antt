@@ -1,5 +1,4 @@
-use Rattle.term_print.proofs.LiteralLemmas.{literal_stands}
-use Rattle.term_print.proofs.TokenTextLemmas.{literal_cut}
+use Rattle.term_print.proofs.TokenTextLemmas.{literal_stands, literal_cut}
 use Rattle.term_print.proofs.laws.literal_texts.Goals as goal
 
 pub returns : goal.returns

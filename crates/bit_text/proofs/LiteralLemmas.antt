@@ -1,5 +1,5 @@
 -- A literal's text is read as that literal.
-use Rattle.std.proofs.Common.{◌≡◌, ℕ, zero, suc, ◌+◌, ◌*◌, ◌/◌, ◌%◌, ◌^◌, ◌≤◌, ◌<◌, Bool, true, false, not, cond, ltb, ◌==◌, ◌∷◌, ◌++◌, length, add_assoc, refl, sym, ap, ◌∙◌, arith}
+use Rattle.std.proofs.Common.{◌≡◌, ℕ, zero, suc, ◌+◌, ◌*◌, ◌/◌, ◌%◌, ◌^◌, ◌≤◌, ◌<◌, Bool, true, false, not, cond, ltb, ◌==◌, ◌∷◌, ◌++◌, length, Some, add_assoc, refl, sym, ap, ◌∙◌, arith}
 use Rattle.std.specs.Prelude.{if◌then◌else◌, codes}
 use Rattle.std.specs.Char.{digit_value}
 use Rattle.std.specs.Str.Parse.{digits_value_after}
@@ -13,10 +13,9 @@ use Rattle.lex_core.specs.declared.token.Kind.TheVariants as kind
 use Rattle.lex_core.specs.declared.token.Literal.{Literal}
 use Rattle.lex_core.specs.Classes.{is_underscore, digits}
 use Rattle.lex_core.specs.Values as values
-use Rattle.term_print.specs.Printing.{digit, last_digits, literal_text}
-use Rattle.term_print.specs.PrintedLaws.{literal_kind}
-use Rattle.term_print.specs.Words.{literal, literal_word, word_of}
-use Rattle.term_print.proofs.TextLemmas.{small_power}
+use Rattle.bit_text.specs.Texts.{digit, last_digits, literal_text}
+use Rattle.bit_text.specs.TextLaws.{literal_kind}
+use Rattle.bit_text.proofs.DigitLemmas.{small_power}
 
 -- ---- one digit
 
@@ -80,23 +79,24 @@ spelled_bits each n w x h e fits =
     ap (λ v. record { width = v; value = values.spelled (2 ^ each) (last_digits each n x) }) count ∙ ap (λ v. record { width = w; value = v }) value
 
 -- a literal of hex digits, and one of binary digits
-hex_literal : (b : Bits) → IsBits b → b.width % 4 ≡ 0 → literal_word (values.literal_of kind.Hex (codes "0x" ++ last_digits 4 (b.width / 4) b.value)) ≡ literal b
+hex_literal : (b : Bits) → IsBits b → b.width % 4 ≡ 0 → values.literal_of kind.Hex (codes "0x" ++ last_digits 4 (b.width / 4) b.value) ≡ Some (record { width = b.width; value = b.value })
 unfolding values.literal_of
 hex_literal b h e =
     let whole : 4 * (b.width / 4) ≡ b.width = omega arith in
-    ap (λ (v : Literal). literal (record { width = v.width; value = v.value })) (spelled_bits 4 (b.width / 4) b.width b.value (omega arith) whole h.fits)
+    ap (λ (v : Literal). Some v) (spelled_bits 4 (b.width / 4) b.width b.value (omega arith) whole h.fits)
 
-binary_literal : (b : Bits) → IsBits b → literal_word (values.literal_of kind.Binary (codes "0b" ++ last_digits 1 b.width b.value)) ≡ literal b
+binary_literal : (b : Bits) → IsBits b → values.literal_of kind.Binary (codes "0b" ++ last_digits 1 b.width b.value) ≡ Some (record { width = b.width; value = b.value })
 unfolding values.literal_of
 binary_literal b h =
     let whole : 1 * b.width ≡ b.width = omega arith in
-    ap (λ (v : Literal). literal (record { width = v.width; value = v.value })) (spelled_bits 1 b.width b.width b.value (omega arith) whole h.fits)
+    ap (λ (v : Literal). Some v) (spelled_bits 1 b.width b.width b.value (omega arith) whole h.fits)
 
 -- the text of a literal stands for it
-pub literal_stands : (b : Bits) → IsBits b → word_of (literal_kind b) (literal_text b) ≡ literal b
+pub literal_stands : (b : Bits) → IsBits b → values.literal_of (literal_kind b) (literal_text b) ≡ Some (record { width = b.width; value = b.value })
 unfolding literal_text
 literal_stands b h = either (b.width % 4 == 0) refl
   where
-    either : (t : Bool) → (b.width % 4 == 0) ≡ t → word_of (if t then kind.Hex else kind.Binary) (if t then codes "0x" ++ last_digits 4 (b.width / 4) b.value else codes "0b" ++ last_digits 1 b.width b.value) ≡ literal b
+    either : (t : Bool) → (b.width % 4 == 0) ≡ t
+        → values.literal_of (if t then kind.Hex else kind.Binary) (if t then codes "0x" ++ last_digits 4 (b.width / 4) b.value else codes "0b" ++ last_digits 1 b.width b.value) ≡ Some (record { width = b.width; value = b.value })
     either true e = hex_literal b h (eqb-true (b.width % 4) 0 e)
     either false e = binary_literal b h

@@ -1,6 +1,6 @@
 use Rattle.std.proofs.Common.{◌≡◌, ◌≤◌, ◌++◌}
-use Rattle.term_print.specs.Printing.{last_digits}
-use Rattle.term_print.proofs.printing.put_digits.Given as goal
+use Rattle.bit_text.specs.Texts.{last_digits}
+use Rattle.bit_text.proofs.printing.put_digits.Given as goal
 
 -- the digits that are left stand behind those that are written
 abbrev pub invariant-loop-left : goal.invariant-loop-left

@@ -1,0 +1,4 @@
+pub mod AsciiLemmas
+pub mod DigitLemmas
+pub mod LiteralLemmas
+pub mod TokenLemmas
