@@ -1,0 +1,13 @@
+pub mod AsciiLemmas
+pub mod CutLemmas
+pub mod FormedLemmas
+pub mod FormedPrograms
+pub mod Shown
+pub mod SignLemmas
+pub mod Signs
+pub mod Spelled
+pub mod SpelledParts
+pub mod SpelledPrograms
+pub mod SpelledTrees
+pub mod TextLemmas
+pub mod WordLemmas
