@@ -1,1 +1,9 @@
+pub mod AskedLemmas
+pub mod CallLemmas
+pub mod CompleteLemmas
+pub mod ExactLemmas
 pub mod FirstLemmas
+pub mod NameLemmas
+pub mod PatternLemmas
+pub mod RuleLemmas
+pub mod SoundLemmas

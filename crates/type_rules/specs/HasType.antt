@@ -69,12 +69,45 @@ pub record AreIndices (hi lo : Index) (scope : List Local) (w : ℕ) : Type 0 wh
 
 -- ---- names and types
 
+-- a name: a member of the enum, or a new local
+abbrev pub NameFits : Option Item → Ty → Type 0
+NameFits (Some (item.Member e)) t = t ≡ ty.Enum e
+NameFits (Some (item.Register w)) t = ⊥
+NameFits (Some item.Enum) t = ⊥
+NameFits (Some (item.Function ps r after)) t = ⊥
+NameFits None t = ⊤
+
+-- what is asked of an argument, where the first one has the type
+abbrev pub slot_asks : Slot → Option Ty → Option Ty
+slot_asks (slot.Is q) one = Some q
+slot_asks slot.AnyBits one = None
+slot_asks slot.Alike one = one
+
+-- the type of an argument of which bits are asked is one of bits
+abbrev pub SlotTakes : Slot → Ty → Type 0
+SlotTakes (slot.Is q) t = ⊤
+SlotTakes slot.AnyBits t = IsOfBits t
+SlotTakes slot.Alike t = ⊤
+
+-- a function gives the type that is written, or that of its first argument
+abbrev pub Gives : Option Ty → Option Ty → Ty → Type 0
+Gives (Some r) one t = r ≡ t
+Gives None one t = one ≡ Some t
+
+-- a function that is complete above, and its arguments
+abbrev pub Calls : ℕ → Option Item → (List Slot → Option Ty → Type 0) → Type 0
+Calls here (Some (item.Function ps r after)) Args = (after ≤ here) × Args ps r
+Calls here (Some (item.Register w)) Args = ⊥
+Calls here (Some (item.Member e)) Args = ⊥
+Calls here (Some item.Enum) Args = ⊥
+Calls here None Args = ⊥
+
 module _ (globals : List Entry) where
   -- the type of a name: a local's, else that of a register or a member
   abbrev pub name_type : Text → Option Sort → Option Ty
   name_type x (Some (Holds t v)) = t
   name_type x (Some (Counts a b)) = None
-  name_type x None = item_type globals (find x globals)
+  name_type x None = item_type (find x globals)
 
   -- no name of the whole text
   abbrev pub IsFree : Text → Type 0
@@ -102,14 +135,6 @@ module _ (globals : List Entry) where
   ArePartsOf [] before total = before ≡ total
   ArePartsOf (p ∷ ps) before total = IsPart p × ArePartsOf ps (before + part_width p) total
 
-  -- a name: a member of the enum, or a new local
-  abbrev pub NameFits : Option Item → Ty → Type 0
-  NameFits (Some (item.Member e)) t = t ≡ ty.Enum e
-  NameFits (Some (item.Register w)) t = ⊥
-  NameFits (Some item.Enum) t = ⊥
-  NameFits (Some (item.Function ps r after)) t = ⊥
-  NameFits None t = ⊤
-
   -- a pattern of values of the type
   abbrev pub PatternFits : Pattern → Ty → Type 0
   PatternFits pattern.Any t = ⊤
@@ -118,36 +143,9 @@ module _ (globals : List Entry) where
   PatternFits (pattern.Truth b) t = t ≡ ty.Bool
   PatternFits (pattern.Parts ps) t = (n : ℕ) × (ArePartsOf ps 0 n × (n ≤ 128) × (t ≡ ty.Bits n))
 
-  -- ---- calls
-
-  -- what is asked of an argument, where the first one has the type
-  abbrev pub slot_asks : Slot → Option Ty → Option Ty
-  slot_asks (slot.Is q) one = Some q
-  slot_asks slot.AnyBits one = None
-  slot_asks slot.Alike one = one
-
-  -- the type of an argument of which bits are asked is one of bits
-  abbrev pub SlotTakes : Slot → Ty → Type 0
-  SlotTakes (slot.Is q) t = ⊤
-  SlotTakes slot.AnyBits t = IsOfBits t
-  SlotTakes slot.Alike t = ⊤
-
-  -- a function gives the type that is written, or that of its first argument
-  abbrev pub Gives : Option Ty → Option Ty → Ty → Type 0
-  Gives (Some r) one t = r ≡ t
-  Gives None one t = one ≡ Some t
-
   -- ---- expressions in the definition in front of which so many stand
 
   module _ (here : ℕ) where
-    -- a function that is complete above, and its arguments
-    abbrev pub Calls : Option Item → (List Slot → Option Ty → Type 0) → Type 0
-    Calls (Some (item.Function ps r after)) Args = (after ≤ here) × Args ps r
-    Calls (Some (item.Register w)) Args = ⊥
-    Calls (Some (item.Member e)) Args = ⊥
-    Calls (Some item.Enum) Args = ⊥
-    Calls None Args = ⊥
-
     abbrev mutual
       -- an expression
       pub HasType : Tree → Option Ty → List Local → Ty → Type 0
@@ -167,7 +165,7 @@ module _ (globals : List Entry) where
       FormHas (update of hi lo by) want scope t =
           (w : ℕ) × (HasType of None scope (ty.Bits w) × AreIndices hi lo scope w
           × HasType by (Some (ty.Bits (between hi lo))) scope (ty.Bits (between hi lo)) × (t ≡ ty.Bits w) × Asks want t)
-      FormHas (call f args) want scope t = Calls (find f globals) (λ params result. ArgsHave args params result scope t) × Asks want t
+      FormHas (call f args) want scope t = Calls here (find f globals) (λ params result. ArgsHave args params result scope t) × Asks want t
       FormHas (widen signed to of) want scope t =
           (w : ℕ) × (HasType of None scope (ty.Bits w) × IsWidth to × (w ≤ to) × (t ≡ ty.Bits to) × Asks want t)
       FormHas (choose test one other) want scope t = HasType test (Some ty.Bool) scope ty.Bool × HasType one want scope t × HasType other (Some t) scope t

@@ -30,6 +30,11 @@ abbrev pub Agrees : List Ty → Ty → Option Function → Type 0
 Agrees args result None = ⊥
 Agrees args result (Some f) = AreAlike args f.params × (result ≡ f.result)
 
+-- the locals of a body
+abbrev pub locals_of : List Param → List Local → List Local
+locals_of [] scope = scope
+locals_of (p ∷ ps) scope = locals_of ps (record { name = p.name; sort = Holds (Some p.ty) false } ∷ scope)
+
 module _ (globals : List Entry) where
   -- types
   abbrev pub AreTypes : List Ty → Type 0
@@ -40,11 +45,6 @@ module _ (globals : List Entry) where
   abbrev pub AreParams : List Param → Type 0
   AreParams [] = ⊤
   AreParams (p ∷ ps) = IsType globals p.ty × IsFree globals p.name × AreParams ps
-
-  -- the locals of a body
-  abbrev pub locals_of : List Param → List Local → List Local
-  locals_of [] scope = scope
-  locals_of (p ∷ ps) scope = locals_of ps (record { name = p.name; sort = Holds (Some p.ty) false } ∷ scope)
 
   -- a function whose body has its result, which calls no higher than is allowed
   pub record IsTypedFunction (f : Function) (above : List Height) (i : ℕ) : Type 0 where
@@ -64,7 +64,7 @@ module _ (globals : List Entry) where
   -- all of them
   abbrev pub AreTypedDefinitions : List Definition → List Height → ℕ → Type 0
   AreTypedDefinitions [] above i = ⊤
-  AreTypedDefinitions (d ∷ ds) above i = IsTypedDefinition d above i ds × AreTypedDefinitions ds (heights_after globals d above) (i + 1)
+  AreTypedDefinitions (d ∷ ds) above i = IsTypedDefinition d above i ds × AreTypedDefinitions ds (heights_after d above) (i + 1)
 
 -- a program that is typed
 pub record IsTypedProgram (defs : List Definition) : Type 0 where

@@ -39,6 +39,33 @@ gives scope j = record { ending = ending.Value j.type; scope = scope; faults = j
 abbrev pub onward : Stepped → (Ending → List Local → Judged) → Judged
 onward s f = record { type = (f s.ending s.scope).type; faults = both s.faults (f s.ending s.scope).faults }
 
+-- a name: a member fits values of its enum, any other name is a new local
+abbrev pub name_pattern : Text → ℕ → Option Ty → Option Item → Judged
+name_pattern x at on (Some (item.Member e)) = pattern_fits at on (ty.Enum e)
+name_pattern x at on (Some (item.Register w)) = says at (Twice x)
+name_pattern x at on (Some item.Enum) = says at (Twice x)
+name_pattern x at on (Some (item.Function ps r after)) = says at (Twice x)
+name_pattern x at on None = is None
+
+-- the locals that a part binds
+abbrev pub entered_part : Part → List Local → List Local
+entered_part (part.Lit b) scope = scope
+entered_part (part.Bind x w) scope = record { name = x; sort = Holds (Some (ty.Bits w)) false } ∷ scope
+entered_part (part.Skip w) scope = scope
+
+-- those that parts bind
+abbrev pub entered_parts : List Part → List Local → List Local
+entered_parts [] scope = scope
+entered_parts (p ∷ rest) scope = entered_parts rest (entered_part p scope)
+
+-- those that a name binds: a member none, any other name itself
+abbrev pub entered_name : Option Item → Text → Option Ty → List Local → List Local
+entered_name (Some (item.Member e)) x on scope = scope
+entered_name (Some (item.Register w)) x on scope = record { name = x; sort = Holds on false } ∷ scope
+entered_name (Some item.Enum) x on scope = record { name = x; sort = Holds on false } ∷ scope
+entered_name (Some (item.Function ps r after)) x on scope = record { name = x; sort = Holds on false } ∷ scope
+entered_name None x on scope = record { name = x; sort = Holds on false } ∷ scope
+
 module _ (globals : List Entry) where
   -- ---- patterns, where a value of a type is matched; the place is that of the arm's body
 
@@ -53,14 +80,6 @@ module _ (globals : List Entry) where
   judge_parts [] total are_parts at on = parts_fit at on total are_parts
   judge_parts (p ∷ rest) total are_parts at on = bind (part_taken at p) (λ _. judge_parts rest (widened total (part_width p)) (are_parts && is_part p) at on)
 
-  -- a name: a member fits values of its enum, any other name is a new local
-  abbrev pub name_pattern : Text → ℕ → Option Ty → Option Item → Judged
-  name_pattern x at on (Some (item.Member e)) = pattern_fits at on (ty.Enum e)
-  name_pattern x at on (Some (item.Register w)) = says at (Twice x)
-  name_pattern x at on (Some item.Enum) = says at (Twice x)
-  name_pattern x at on (Some (item.Function ps r after)) = says at (Twice x)
-  name_pattern x at on None = is None
-
   -- a pattern
   abbrev pub judge_pattern : Pattern → ℕ → Option Ty → Judged
   judge_pattern pattern.Any at on = is None
@@ -68,25 +87,6 @@ module _ (globals : List Entry) where
   judge_pattern (pattern.Lit b) at on = literal_fits at on b
   judge_pattern (pattern.Truth b) at on = pattern_fits at on ty.Bool
   judge_pattern (pattern.Parts ps) at on = judge_parts ps 0 true at on
-
-  -- the locals that a part binds
-  abbrev pub entered_part : Part → List Local → List Local
-  entered_part (part.Lit b) scope = scope
-  entered_part (part.Bind x w) scope = record { name = x; sort = Holds (Some (ty.Bits w)) false } ∷ scope
-  entered_part (part.Skip w) scope = scope
-
-  -- those that parts bind
-  abbrev pub entered_parts : List Part → List Local → List Local
-  entered_parts [] scope = scope
-  entered_parts (p ∷ rest) scope = entered_parts rest (entered_part p scope)
-
-  -- those that a name binds: a member none, any other name itself
-  abbrev pub entered_name : Option Item → Text → Option Ty → List Local → List Local
-  entered_name (Some (item.Member e)) x on scope = scope
-  entered_name (Some (item.Register w)) x on scope = record { name = x; sort = Holds on false } ∷ scope
-  entered_name (Some item.Enum) x on scope = record { name = x; sort = Holds on false } ∷ scope
-  entered_name (Some (item.Function ps r after)) x on scope = record { name = x; sort = Holds on false } ∷ scope
-  entered_name None x on scope = record { name = x; sort = Holds on false } ∷ scope
 
   -- those that a pattern binds, where the matched value has the type
   abbrev pub entered : Pattern → Option Ty → List Local → List Local
@@ -161,7 +161,7 @@ module _ (globals : List Entry) where
 
       -- a chain of an operator that doesn't join
       pub judge_chain : Trees → Infix → ℕ → Option Ty → List Local → Judged
-      judge_chain none op at want scope = is None
+      judge_chain none op at want scope = no_type at want
       judge_chain (some t rest) op at want scope =
           bind (bind (judge t None scope) (heads op (place_of t))) (λ one.
           bind (judge_rest rest one scope) (λ _. fits at want (chain_type op one)))

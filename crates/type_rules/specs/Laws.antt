@@ -43,17 +43,18 @@ AreSlots globals (slot.Is q ∷ ss) = IsType globals q × AreSlots globals ss
 AreSlots globals (slot.AnyBits ∷ ss) = AreSlots globals ss
 AreSlots globals (slot.Alike ∷ ss) = AreSlots globals ss
 
--- so is what it gives
-abbrev pub IsResult : List Entry → Option Ty → Type 0
-IsResult globals None = ⊤
-IsResult globals (Some r) = IsType globals r
+-- what it gives is one too, or the type of an argument that is there
+abbrev pub IsResult : List Entry → List Slot → Option Ty → Type 0
+IsResult globals ss (Some r) = IsType globals r
+IsResult globals [] None = ⊥
+IsResult globals (s ∷ ss) None = ⊤
 
 -- what a name stands for has types
 abbrev pub HasTypes : List Entry → Item → Type 0
 HasTypes globals (item.Register w) = ⊤
 HasTypes globals item.Enum = ⊤
 HasTypes globals (item.Member e) = ⊤
-HasTypes globals (item.Function ps r after) = AreSlots globals ps × IsResult globals r
+HasTypes globals (item.Function ps r after) = AreSlots globals ps × IsResult globals ps r
 
 -- all that names stand for have types
 abbrev pub AllHaveTypes : List Entry → List Entry → Type 0

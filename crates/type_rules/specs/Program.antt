@@ -65,6 +65,18 @@ val_faults x at args result (Some f) =
 
 -- ---- definitions
 
+-- the height of a function
+abbrev pub height_faults : Text → ℕ → ℕ → Faults
+height_faults x at n = if nat_le n most_calls then fine else wrong at (TooHigh x)
+
+-- the functions above what follows a definition
+abbrev pub heights_after : Definition → List Height → List Height
+heights_after order above = above
+heights_after (register x width at) above = above
+heights_after (enumeration x members at) above = above
+heights_after (signature x args result at) above = above
+heights_after (function f) above = record { name = f.name; calls = own_height above f.body } ∷ above
+
 module _ (globals : List Entry) where
   -- types that are written in a definition
   abbrev pub types_faults : ℕ → List Ty → Faults
@@ -81,10 +93,6 @@ module _ (globals : List Entry) where
   params_scope [] scope = scope
   params_scope (p ∷ ps) scope = params_scope ps (record { name = p.name; sort = Holds (known globals p.ty) false } ∷ scope)
 
-  -- the height of a function
-  abbrev pub height_faults : Text → ℕ → ℕ → Faults
-  height_faults x at n = if nat_le n most_calls then fine else wrong at (TooHigh x)
-
   -- a definition, where those functions and so many definitions stand above it, and others below
   abbrev pub definition_faults : Definition → List Height → ℕ → List Definition → Faults
   definition_faults order above i below = fine
@@ -97,14 +105,6 @@ module _ (globals : List Entry) where
       both (written globals f.at f.result).faults (
       both (height_faults f.name f.at (own_height above f.body))
       (judge globals i f.body (known globals f.result) (params_scope f.params [])).faults))
-
-  -- the functions above what follows a definition
-  abbrev pub heights_after : Definition → List Height → List Height
-  heights_after order above = above
-  heights_after (register x width at) above = above
-  heights_after (enumeration x members at) above = above
-  heights_after (signature x args result at) above = above
-  heights_after (function f) above = record { name = f.name; calls = own_height above f.body } ∷ above
 
   -- definitions, each as if the faults of the others weren't there
   abbrev pub definitions_faults : List Definition → List Height → ℕ → Faults

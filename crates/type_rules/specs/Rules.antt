@@ -377,20 +377,32 @@ ended at want (ending.Value t) = is t
 
 -- ---- names
 
+-- the type of a name of the whole text: registers and members have one
+abbrev pub item_type : Option Item → Option Ty
+item_type (Some (item.Register w)) = Some (ty.Bits w)
+item_type (Some (item.Member e)) = Some (ty.Enum e)
+item_type (Some item.Enum) = None
+item_type (Some (item.Function ps r after)) = None
+item_type None = None
+
+-- a type of a name, where it has one
+abbrev pub named : Text → ℕ → Option Ty → Judged
+named x at (Some t) = is (Some t)
+named x at None = says at (Unknown x)
+
+-- a type that isn't one: a name that is no enum's, or bits of a width outside 1 to 128
+abbrev pub no_such_type : ℕ → Ty → Judged
+no_such_type at (ty.Enum x) = says at (Unknown x)
+no_such_type at ty.Unit = differs ty.Unit ty.Unit at
+no_such_type at ty.Bool = differs ty.Bool ty.Bool at
+no_such_type at (ty.Bits w) = differs (ty.Bits w) (ty.Bits w) at
+
+-- a type that is written
+abbrev pub type_named : Option Ty → ℕ → Ty → Judged
+type_named (Some t) at u = is (Some t)
+type_named None at u = no_such_type at u
+
 module _ (globals : List Entry) where
-  -- the type of a name of the whole text: registers and members have one
-  abbrev pub item_type : Option Item → Option Ty
-  item_type (Some (item.Register w)) = Some (ty.Bits w)
-  item_type (Some (item.Member e)) = Some (ty.Enum e)
-  item_type (Some item.Enum) = None
-  item_type (Some (item.Function ps r after)) = None
-  item_type None = None
-
-  -- a type of a name, where it has one
-  abbrev pub named : Text → ℕ → Option Ty → Judged
-  named x at (Some t) = is (Some t)
-  named x at None = says at (Unknown x)
-
   -- a name that is an expression; a foreach variable isn't one
   abbrev pub read_name : Text → ℕ → Option Sort → Judged
   read_name x at (Some (Holds t v)) = is t
@@ -405,18 +417,6 @@ module _ (globals : List Entry) where
   abbrev pub target_of : Option Sort → Text → Target
   target_of (Some s) x = local_target s
   target_of None x = global_target (find x globals)
-
-  -- a type that isn't one: a name that is no enum's, or bits of a width outside 1 to 128
-  abbrev pub no_such_type : ℕ → Ty → Judged
-  no_such_type at (ty.Enum x) = says at (Unknown x)
-  no_such_type at ty.Unit = differs ty.Unit ty.Unit at
-  no_such_type at ty.Bool = differs ty.Bool ty.Bool at
-  no_such_type at (ty.Bits w) = differs (ty.Bits w) (ty.Bits w) at
-
-  -- a type that is written
-  abbrev pub type_named : Option Ty → ℕ → Ty → Judged
-  type_named (Some t) at u = is (Some t)
-  type_named None at u = no_such_type at u
 
   -- a type that is written
   abbrev pub written : ℕ → Ty → Judged
