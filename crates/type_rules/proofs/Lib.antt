@@ -5,5 +5,6 @@ pub mod ExactLemmas
 pub mod FirstLemmas
 pub mod NameLemmas
 pub mod PatternLemmas
+pub mod ProgramLemmas
 pub mod RuleLemmas
 pub mod SoundLemmas

@@ -93,7 +93,7 @@ module _ (globals : List Entry) (types : AllHaveTypes globals globals) (here : �
     sound (node at form) want scope n c = form_sound form at want scope n c
 
     -- the one that is asked for
-    sound_at : (e : Tree) (w : Ty) (scope : List Local) → Known scope → Clean (judge globals here e (Some w) scope).faults → HasType globals here e (Some w) scope w
+    pub sound_at : (e : Tree) (w : Ty) (scope : List Local) → Known scope → Clean (judge globals here e (Some w) scope).faults → HasType globals here e (Some w) scope w
     sound_at (node at form) w scope n c =
         let r = form_sound form at (Some w) scope n c in
         subst (λ t. HasType globals here (node at form) (Some w) scope t) (sym (asked globals here (node at form) w scope r.type r.has)) r.has
