@@ -1,3 +1,4 @@
+pub mod AboveLemmas
 pub mod AskedLemmas
 pub mod CallLemmas
 pub mod CompleteLemmas
@@ -8,3 +9,4 @@ pub mod PatternLemmas
 pub mod ProgramLemmas
 pub mod RuleLemmas
 pub mod SoundLemmas
+pub mod ThereLemmas

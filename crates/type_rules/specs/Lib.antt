@@ -7,3 +7,5 @@ pub mod Program
 pub mod HasType
 pub mod IsTyped
 pub mod Laws
+pub mod Calls
+pub mod ThereLaws
