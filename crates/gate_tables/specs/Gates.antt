@@ -71,7 +71,21 @@ IsGateOfTwo f rows = (x y o : Bool) → IsTrue (all_hold rows (x ∷ y ∷ o ∷
 abbrev pub IsGateOfThree : (Bool → Bool → Bool → Bool) → List (List ℤ) → Type 0
 IsGateOfThree f rows = (x y z o : Bool) → IsTrue (all_hold rows (x ∷ y ∷ z ∷ o ∷ [])) ↔ (o ≡ f x y z)
 
+-- ---- parts of gates
+
+-- the rows hold exactly where the only place is 1
+abbrev pub IsUnit : List (List ℤ) → Type 0
+IsUnit rows = (o : Bool) → IsTrue (all_hold rows (o ∷ [])) ↔ IsTrue o
+
+-- the rows hold exactly where the output is 0 or the function of the inputs is 1
+abbrev pub OutputImplies : (Bool → Bool → Bool) → List (List ℤ) → Type 0
+OutputImplies f rows = (x y o : Bool) → IsTrue (all_hold rows (x ∷ y ∷ o ∷ [])) ↔ IsTrue (not o || f x y)
+
 -- ---- their functions
+
+-- both are the same
+abbrev pub equal : Bool → Bool → Bool
+equal x y = if x then y else not y
 
 -- exactly one of both
 abbrev pub exclusive : Bool → Bool → Bool

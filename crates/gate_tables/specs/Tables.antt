@@ -48,3 +48,17 @@ maj_rows =
 abbrev pub mux_rows : List (List ℤ)
 mux_rows =
     four minus minus none plus ∷ four minus plus none minus ∷ four plus none minus plus ∷ four plus none plus minus ∷ []
+
+-- ---- parts of gates
+
+-- o is 1: o
+abbrev pub unit_rows : List (List ℤ)
+unit_rows = (plus ∷ []) ∷ []
+
+-- x and y are equal where o is 1: -o -x y / -o x -y
+abbrev pub equal_rows : List (List ℤ)
+equal_rows = three minus plus minus ∷ three plus minus minus ∷ []
+
+-- x and y differ where o is 1: -o x y / -o -x -y
+abbrev pub apart_rows : List (List ℤ)
+apart_rows = three plus plus minus ∷ three minus minus minus ∷ []

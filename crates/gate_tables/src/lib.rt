@@ -7,9 +7,9 @@
 pub mod laws;
 mod rows;
 
-ghost use Rattle.std.specs.Prelude.{◌≡◌, ◌<◌, ◌&&◌, ◌||◌};
-ghost use Rattle.gate_tables.specs.Gates.{IsSign, all_hold, sign_at, exclusive, majority, parity, chosen, IsGateOfOne, IsGateOfTwo, IsGateOfThree};
-ghost use Rattle.gate_tables.specs.Tables.{same_rows, and_rows, or_rows, xor_rows, sum_rows, maj_rows, mux_rows};
+ghost use Rattle.std.specs.Prelude.{◌≡◌, ◌<◌, ◌&&◌, ◌||◌, option_map, slice_get};
+ghost use Rattle.gate_tables.specs.Gates.{IsSign, all_hold, sign_at, exclusive, equal, majority, parity, chosen, IsGateOfOne, IsGateOfTwo, IsGateOfThree, IsUnit, OutputImplies};
+ghost use Rattle.gate_tables.specs.Tables.{same_rows, and_rows, or_rows, xor_rows, sum_rows, maj_rows, mux_rows, unit_rows, equal_rows, apart_rows};
 
 use std::marker::Model;
 
@@ -41,6 +41,13 @@ impl<const K: usize, const R: usize> Gate<K, R> {
         ensures sign { IsSign result }
     {
         self.rows[row][place]
+    }
+
+    /// A row, if there is one of this number.
+    pub fn row(&self, row: usize) -> Option<&[i8; K]>
+        ensures { option_map (λ r. r.now) result ≡ slice_get self.now row }
+    {
+        self.rows.get(row)
     }
 
     /// Whether each row is true at these values of the places.
@@ -122,4 +129,28 @@ pub fn mux_gate() -> Gate<4, 4>
     ensures gate { IsGateOfThree chosen result }
 {
     gate!([- - . +] [- + . -] [+ . - +] [+ . + -])
+}
+
+/// Over o alone: o is 1.
+pub fn unit_gate() -> Gate<1, 1>
+    ensures rows { result ≡ unit_rows }
+    ensures gate { IsUnit result }
+{
+    gate!([+])
+}
+
+/// Over x, y; o: where o is 1, x and y are equal.
+pub fn equal_gate() -> Gate<3, 2>
+    ensures rows { result ≡ equal_rows }
+    ensures gate { OutputImplies equal result }
+{
+    gate!([- + -] [+ - -])
+}
+
+/// Over x, y; o: where o is 1, x and y differ.
+pub fn apart_gate() -> Gate<3, 2>
+    ensures rows { result ≡ apart_rows }
+    ensures gate { OutputImplies exclusive result }
+{
+    gate!([+ + -] [- - -])
 }
