@@ -1,0 +1,10 @@
+pub mod Nodes
+pub mod Numbers
+pub mod Operators
+pub mod Pairs
+pub mod PartLemmas
+pub mod Products
+pub mod Relations
+pub mod Shifts
+pub mod Signs
+pub mod Words

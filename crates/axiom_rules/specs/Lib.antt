@@ -1,0 +1,4 @@
+pub mod Axioms
+pub mod Laws
+pub mod Parts
+pub mod Truth
