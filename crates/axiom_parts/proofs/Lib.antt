@@ -1,0 +1,3 @@
+pub mod CongruenceLemmas
+pub mod RowLemmas
+pub mod SubtermLemmas

@@ -1,0 +1,4 @@
+pub mod GrowLemmas
+pub mod ListedLemmas
+pub mod PlaceLemmas
+pub mod ValueLemmas
