@@ -1,0 +1,4 @@
+pub mod Checked
+pub mod Devices
+pub mod Laws
+pub mod View
