@@ -6,5 +6,7 @@ mod kinds;
 pub mod memory;
 mod state;
 
-pub use kinds::{Access, AccessKind, Answers, DevEvent, DevMap, FaultKind, Log, MemStop, Range};
+pub use kinds::{
+    Access, AccessKind, Answers, DevEvent, DevMap, FaultKind, Log, MemStop, Range, Word,
+};
 pub use state::State;
