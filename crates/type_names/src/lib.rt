@@ -1,0 +1,12 @@
+//! The names of a Sail program while it is typed: those of the whole text and locals, and the first fault so far.
+#![tactic(auto)]
+
+mod borrowed;
+mod globals;
+mod locals;
+mod told;
+
+pub use borrowed::{FaultRef, LocalRef, SortRef, TyRef, WhyRef};
+pub use globals::Globals;
+pub use locals::Locals;
+pub use told::say;
