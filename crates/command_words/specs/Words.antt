@@ -1,12 +1,15 @@
--- The commands as they are declared, and the words that are parsed.
-use Rattle.std.specs.Prelude.{◌≡◌, ◌==◌, Bool, codes, true, false, List, [], ◌∷◌, map, Option, Some, None, String, if◌then◌else◌}
+-- The words of a command: how they are parsed, and what they say.
+use Rattle.std.specs.Prelude.{◌==◌, Bool, codes, false, List, [], ◌∷◌, map, Option, Some, None, String, if◌then◌else◌, option_map}
+use Rattle.std.specs.Option.{option_or}
 use Rattle.std.specs.Str.{bytes_eq}
 use Rattle.std.specs.String.{string_bytes}
 use Rattle.std.specs.declared.alloc.Global.{Global}
-use Rattle.clap.specs.declared.parser.matches.Found.{Found}
 use Rattle.std.specs.List.{list_any}
-use Rattle.clap.specs.Words.{App, Rule, Text, first_value, new_app, new_rule, with_rule, with_subcommand}
-use Rattle.report_text.specs.Names.{Row}
+use Rattle.lex_core.specs.Classes.{Text}
+use Rattle.report_text.specs.Names.{Row, row_named}
+use Rattle.trace_words.specs.Trace.{TraceSaid, trace_of, trace_said}
+use Rattle.command_words.specs.declared.commands.CommandGiven.{CommandGiven}
+use Rattle.command_words.specs.declared.commands.CommandGiven.TheVariants as given
 
 -- ---- the words
 
@@ -19,6 +22,17 @@ abbrev pub is_dashed : Text → Bool
 is_dashed [] = false
 is_dashed (b ∷ word) = b == 45
 
+-- the words with `--` behind the first, so that a name may be any word
+abbrev pub marked : List Text → List Text
+marked [] = []
+marked (x ∷ rest) = x ∷ codes "--" ∷ rest
+
+-- the words that are parsed: none, where one begins with `-`
+abbrev pub spelled : List Text → List Text
+spelled words = if list_any is_dashed words then [] else marked words
+
+-- ---- what they say
+
 -- the names behind the word `check`, where there are three
 abbrev pub names_behind : List Text → Option Row
 names_behind (command ∷ sail ∷ image ∷ proof ∷ []) =
@@ -29,37 +43,28 @@ names_behind words = None
 abbrev pub row_of : List Text → Option Row
 row_of words = if list_any is_dashed words then None else names_behind words
 
--- ---- the commands as they are declared, and the words that are parsed
+-- what stands behind the word `trace`
+abbrev pub trace_behind : List Text → Option TraceSaid
+trace_behind [] = None
+trace_behind (command ∷ rest) = if bytes_eq command (codes "trace") then trace_of rest else None
 
--- a name that has to be given
-abbrev pub required : Text → Rule
-required id = record (new_rule id) { required = true }
+-- a command: a check of the row's files, or a trace
+pub data CommandSaid : Type 0 where
+  check : Row → CommandSaid
+  trace : TraceSaid → CommandSaid
 
--- `check` and its three names
-abbrev pub check_app : App
-check_app = with_rule (with_rule (with_rule (new_app (codes "check")) (required (codes "SAIL"))) (required (codes "IMAGE"))) (required (codes "PROOF"))
+-- the words are `check SAIL IMAGE PROOF`, or `trace SAIL OPCODE` and then `REG=LIT` any number of times; none begins with `-`
+abbrev pub command_of : List Text → Option CommandSaid
+command_of words =
+    if list_any is_dashed words then None else option_or (option_map check (names_behind words)) (option_map trace (trace_behind words))
 
--- the program without its commands
-abbrev pub bare_app : App
-bare_app = record (new_app (codes "islaris")) {
-  top = record (new_app (codes "islaris")).top { no_binary_name = true; disable_help_subcommand = true; subcommand_required = true };
-}
+-- the command, as the code has it
+abbrev pub command_said : CommandGiven → CommandSaid
+command_said (given.Check names) = check (row_named names)
+command_said (given.Trace words) = trace (trace_said words)
 
--- the program
-abbrev pub app : App
-app = with_subcommand bare_app check_app.top
-
--- the words with `--` behind the first, so that a name may be any word
-abbrev pub marked : List Text → List Text
-marked [] = []
-marked (x ∷ rest) = x ∷ codes "--" ∷ rest
-
--- the words that are parsed: none, where one begins with `-`
-abbrev pub spelled : List Text → List Text
-spelled words = if list_any is_dashed words then [] else marked words
-
--- the values of `check` are the names of a row
-pub record HasNames (given : Found) (row : Row) : Type 0 where
-  pub sail : first_value given (codes "SAIL") ≡ Some row.sail
-  pub image : first_value given (codes "IMAGE") ≡ Some row.image
-  pub proof : first_value given (codes "PROOF") ≡ Some row.proof
+-- the row of a check
+abbrev pub row_said : Option CommandSaid → Option Row
+row_said (Some (check row)) = Some row
+row_said (Some (trace words)) = None
+row_said None = None

@@ -1,6 +1,9 @@
 //! The words of the command line, parsed by `clap`.
 #![tactic(auto)]
 
+mod commands;
+mod declared;
 mod words;
 
-pub use words::{row, spelled};
+pub use commands::{CommandGiven, command, row};
+pub use words::spelled;

@@ -1,1 +1,3 @@
 pub mod Borrowed
+pub mod Newest
+pub mod Places

@@ -4,6 +4,8 @@
 mod borrowed;
 mod globals;
 mod locals;
+mod newest;
+mod places;
 mod told;
 
 pub use borrowed::{FaultRef, LocalRef, SortRef, TyRef, WhyRef};

@@ -1,5 +1,5 @@
 -- The rules in small: what is said of one part, where its place asks for a type or for none. An unknown type is one of a part with a fault in it.
-use Rattle.std.specs.Prelude.{ℕ, ◌+◌, ◌-◌, ◌^◌, Bool, true, false, not, List, [], ◌∷◌, length, Option, Some, None, bytes_eq, nat_eq, nat_lt, nat_le, ◌&&◌, ◌||◌, if◌then◌else◌}
+use Rattle.std.specs.Prelude.{ℕ, ◌+◌, ◌-◌, ◌^◌, Bool, true, false, not, List, [], ◌∷◌, length, min, Option, Some, None, bytes_eq, nat_eq, nat_lt, nat_le, ◌&&◌, ◌||◌, if◌then◌else◌}
 use Rattle.bv_bits.specs.Bits.{is_width}
 use Rattle.bv_bits.specs.declared.Bits.{Bits}
 use Rattle.sail_syntax.specs.Tree.{Text, Tree, node, Trees, none, some, Cases, no_case, case, Steps, done, next}
@@ -234,9 +234,9 @@ is_inside s plus None = true
 abbrev pub is_range : Index → Index → Bool
 is_range hi lo = is_same_var hi.var lo.var && nat_le lo.plus hi.plus && nat_le hi.plus 127
 
--- how many bits stand between two indices
+-- how many bits stand between two indices; of indices that are too far apart, which break a rule, no more than 128
 abbrev pub between : Index → Index → ℕ
-between hi lo = hi.plus - lo.plus + 1
+between hi lo = min (hi.plus - lo.plus) 127 + 1
 
 -- the indices of a slice or an update of bits, which then has this type
 abbrev pub sliced : ℕ → Option Ty → Index → Index → Span → Span → Option Ty → Option Ty → Judged

@@ -1,0 +1,3 @@
+pub mod Opcode
+pub mod Given
+pub mod Trace

@@ -1,0 +1,5 @@
+-- The greatest of three.
+use Rattle.std.proofs.Common.{◌≡◌, ℕ, max, arith}
+
+pub max_assoc : (a b c : ℕ) → max (max a b) c ≡ max a (max b c)
+max_assoc a b c = omega arith

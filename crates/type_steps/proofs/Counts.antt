@@ -1,0 +1,27 @@
+-- How many there are.
+use Rattle.std.proofs.Common.{◌≡◌, ℕ, zero, suc, ◌+◌, ◌-◌, ◌≤◌, ◌<◌, Bool, true, false, List, [], ◌∷◌, length, drop, refl, ap, sym, ◌∙◌, arith, add-one, nat_eq, length-drop}
+use Rattle.std.proofs.lemmas.Bool.Decides.{nat_tests}
+use Rattle.std.specs.Prelude.{map}
+use Rattle.sail_syntax.specs.declared.tree.Arm.{Arm}
+use Rattle.sail_syntax.specs.declared.tree.Expr.{Expr}
+use Rattle.sail_syntax.specs.declared.tree.Stmt.{Stmt}
+use Rattle.sail_syntax.specs.View.{tree, trees, choice_of, cases_of, step_of, steps_of}
+use Rattle.type_rules.specs.Rules.{count, has_arm, is_done}
+
+pub count_trees : (xs : List Expr) → count (trees (map tree xs)) ≡ length xs
+count_trees [] = refl
+count_trees (x ∷ xs) = ap (λ n. n + 1) (count_trees xs) ∙ add-one (length xs)
+
+done_of : (ys : List Stmt) → is_done (steps_of (map step_of ys)) ≡ nat_eq (length ys) 0
+done_of [] = refl
+done_of (y ∷ ys) = grind (arith, nat_tests)
+
+same_test : (n m k : ℕ) → m < n → k ≡ n - (m + 1) → nat_eq k 0 ≡ nat_eq (m + 1) n
+same_test n m k h e = grind (arith, nat_tests)
+
+pub done_drop : (xs : List Stmt) (i : ℕ) → i < length xs → is_done (steps_of (map step_of (drop (i + 1) xs))) ≡ nat_eq (i + 1) (length xs)
+done_drop xs i h = done_of (drop (i + 1) xs) ∙ same_test (length xs) i (length (drop (i + 1) xs)) h (length-drop (i + 1) xs)
+
+pub some_arm : (xs : List Arm) → 1 ≤ length xs → true ≡ has_arm (cases_of (map choice_of xs))
+some_arm [] h = absurd (omega (arith, h))
+some_arm (x ∷ xs) h = refl
