@@ -65,4 +65,4 @@ on_run_text what number spec block pc more = concat (what ∷ codes " " ∷ deci
 
 -- how the program is called
 abbrev pub usage_text : Text
-usage_text = codes "words\nusage: islaris check SAIL IMAGE PROOF\n"
+usage_text = codes "words\nusage: islaris trace SAIL OPCODE [REG=LIT ..]\nusage: islaris check SAIL IMAGE PROOF\n"

@@ -204,5 +204,9 @@ pub fn on_run(
 pub fn usage(alloc: Global) -> Result<Vec<u8>, NoMemory>
     ensures exact { IfOk result (λ text. text.items ≡ usage_text) }
 {
-    Ok(b"words\nusage: islaris check SAIL IMAGE PROOF\n".to_vec(alloc)?)
+    Ok(
+        b"words\nusage: islaris trace SAIL OPCODE [REG=LIT ..]\nusage: islaris check SAIL IMAGE PROOF\n".to_vec(
+            alloc,
+        )?,
+    )
 }

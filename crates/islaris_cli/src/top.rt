@@ -1,16 +1,16 @@
 //! The top call: the words, the files that they name, the verdict, and the writing of its text.
 
-ghost use Rattle.std.specs.Prelude.{◌≡◌, ◌≤◌, ◌⊎◌, IfOk, IfErr, Some, None};
+ghost use Rattle.std.specs.Prelude.{◌≡◌, ◌≤◌, ◌⊎◌, [], ◌∷◌, IfOk, IfErr, Some, None};
 ghost use Rattle.files_core.specs.Counts.{Rose};
 ghost use Rattle.files_core.specs.Store.{Store};
 ghost use Rattle.files_core.specs.Writes.{Grows};
-ghost use Rattle.constants_text.specs.Texts.{usage_text};
 ghost use Rattle.report_text.specs.Outcome.{bad_input, beyond, refuse, said_of};
-ghost use Rattle.report_text.specs.Names.{Row, row_named};
-ghost use Rattle.islaris_cli.specs.Top.{reading, writing, sources, IsRead, AreRead, HaltsAt, IsHalt, Answers, IsFinished, HasCause, Tells, TellsAccepted, TellsLimit, TellsMissing, TellsReadFault, answer_over, IsExact};
-ghost use Rattle.command_words.specs.Words.{words_of, row_of};
+ghost use Rattle.report_text.specs.Names.{row_named};
+ghost use Rattle.islaris_cli.specs.Top.{reading, writing, row_sources, sail_source, IsRead, AreRead, IsJudged, IsTraced, HaltsAt, IsHalt, StopsAmong, Answers, IsFinished, HasCause, Tells, TellsOfCheck, TellsAccepted, TellsUsage, TellsLimit, TellsMissing, TellsReadFault, answer_over, IsExact};
+ghost use Rattle.command_words.specs.Words.{words_of, CommandSaid, command_of};
+ghost use Rattle.trace_words.specs.Trace.{trace_said};
 
-use command_words::{row, spelled};
+use command_words::{CommandGiven, command, spelled};
 use constants_check::judge;
 use constants_text::{on_file, on_name, usage};
 use files_core::{Files, InFault, OutFault, Sink, read_all, write_all};
@@ -20,6 +20,8 @@ use report_text::numbers::{
 };
 use report_text::{Names, Outcome, Status};
 use std::alloc::Global;
+use trace_verdict::judge_trace;
+use trace_words::TraceGiven;
 
 /// An outcome before its time, or want of memory.
 #[derive(Drop)]
@@ -82,7 +84,7 @@ fn read_named<F: Files>(
 /// The texts of the row's files, read in the order of the words. A halt is handed on as it is: the clause names it.
 fn read_three<F: Files>(alloc: Global, files: &mut F, row: &Names<'_>) -> Result<Texts, Halt>
     ensures read { IfOk result (λ t. AreRead (F.store files.old) (row_named row.now) t.sail.items t.image.items t.proof.items) }
-    ensures halt { IfErr result (λ h. IsHalt h (reading F.Files files.old files.new) (sources (row_named row.now))) }
+    ensures halt { IfErr result (λ h. IsHalt h (reading F.Files files.old files.new) (row_sources (row_named row.now))) }
 {
     let sail = match read_named(alloc, files, row.sail, SAIL_LIMIT, TEXT_TOO_LONG) {
         Ok(sail) => sail,
@@ -99,22 +101,49 @@ fn read_three<F: Files>(alloc: Global, files: &mut F, row: &Names<'_>) -> Result
     Ok(Texts { sail, image, proof })
 }
 
-/// The status and the text that the words come to.
-fn work<F: Files>(alloc: Global, words: &[String], files: &mut F) -> Result<Outcome, NoMemory>
-    ensures { IfOk result (λ a. Answers (row_of (words_of words.now)) (said_of a) (reading F.Files files.old files.new)) }
+/// What is said of the three texts of a check, or the outcome of the file that stops it.
+fn work_check<F: Files>(alloc: Global, row: &Names<'_>, files: &mut F) -> Result<Outcome, NoMemory>
+    ensures { IfOk result (λ a. IsJudged (F.store files.old) (row_named row.now) (said_of a)
+        ⊎ StopsAmong (said_of a) (reading F.Files files.old files.new) (row_sources (row_named row.now))) }
 {
-    let spelled = spelled(alloc, words)?;
-    let Some(row) = row(alloc, &spelled)? else {
-        let text = usage(alloc)?;
-        return Ok(Outcome {
-            status: Status::Words,
-            text,
-        });
-    };
-    match read_three(alloc, files, &row) {
-        Ok(texts) => judge(alloc, &row, &texts.sail, &texts.image, &texts.proof),
+    match read_three(alloc, files, row) {
+        Ok(texts) => judge(alloc, row, &texts.sail, &texts.image, &texts.proof),
         Err(Halt::Early(outcome)) => Ok(outcome),
         Err(Halt::NoMemory) => Err(NoMemory),
+    }
+}
+
+/// What is said of the Sail text of a trace, or the outcome of the file that stops it.
+fn work_trace<F: Files>(
+    alloc: Global,
+    given: &TraceGiven<'_>,
+    files: &mut F,
+) -> Result<Outcome, NoMemory>
+    ensures { IfOk result (λ a. IsTraced (F.store files.old) (trace_said given.now) (said_of a)
+        ⊎ StopsAmong (said_of a) (reading F.Files files.old files.new) (sail_source (trace_said given.now).sail ∷ [])) }
+{
+    match read_named(alloc, files, given.sail, SAIL_LIMIT, TEXT_TOO_LONG) {
+        Ok(text) => judge_trace(alloc, given, &text),
+        Err(Halt::Early(outcome)) => Ok(outcome),
+        Err(Halt::NoMemory) => Err(NoMemory),
+    }
+}
+
+/// The status and the text that the words come to.
+fn work<F: Files>(alloc: Global, words: &[String], files: &mut F) -> Result<Outcome, NoMemory>
+    ensures { IfOk result (λ a. Answers (command_of (words_of words.now)) (said_of a) (reading F.Files files.old files.new)) }
+{
+    let spelled = spelled(alloc, words)?;
+    match command(alloc, &spelled)? {
+        None => {
+            let text = usage(alloc)?;
+            Ok(Outcome {
+                status: Status::Words,
+                text,
+            })
+        }
+        Some(CommandGiven::Check(row)) => work_check(alloc, &row, files),
+        Some(CommandGiven::Trace(given)) => work_trace(alloc, &given, files),
     }
 }
 
@@ -132,18 +161,18 @@ fn finish<S: Sink>(out: &mut S, outcome: &Outcome) -> u8
 /// Does all that the program does: takes the words, without the program's own name, reads the files that they name in
 /// their order, makes the verdict, builds its text, writes it, and answers the status.
 ///
-/// 0, 1, 3 and 7 say what is said of the three texts; 7 also says that a file is longer than its limit. 2: the words
-/// are no command. 4: a file isn't there, and the count of missing answers rose. 5: a read failed, and the count of
-/// faults rose. 6: a write failed, and the sink's count rose; a prefix of the text is written. 8: want of memory, and
-/// nothing or a prefix of the text is written.
+/// 0 and 1 say what is said of the three texts of a check, 3 and 7 what is said of the texts of either command; 7 also says that a
+/// file is longer than its limit. 2: the words are no command, or don't fit the Sail text of a trace, which types. 4: a file isn't there, and
+/// the count of missing answers rose. 5: a read failed, and the count of faults rose. 6: a write failed, and the sink's count rose; a prefix
+/// of the text is written. 8: want of memory, and nothing or a prefix of the text is written.
 pub fn islaris<F: Files, S: Sink>(alloc: Global, words: &[String], files: &mut F, out: &mut S) -> u8
-    ensures cause { HasCause result (row_of (words_of words.now)) (reading F.Files files.old files.new) (writing S.Sink out.old out.new) }
-    ensures exact { (held : Store) (row : Row) → F.store files.old ≡ Some held → row_of (words_of words.now) ≡ Some row
-        → IsExact result (answer_over held row) (reading F.Files files.old files.new) (writing S.Sink out.old out.new) }
+    ensures cause { HasCause result (command_of (words_of words.now)) (reading F.Files files.old files.new) (writing S.Sink out.old out.new) }
+    ensures exact { (held : Store) (command : CommandSaid) → F.store files.old ≡ Some held → command_of (words_of words.now) ≡ Some command
+        → IsExact result (answer_over held command) (reading F.Files files.old files.new) (writing S.Sink out.old out.new) }
     ensures accepted { result ≡ 0 → TellsAccepted (words_of words.now) (F.store files.old) (S.bytes out.old) (S.bytes out.new) }
-    ensures refused { result ≡ 1 → Tells refuse (words_of words.now) (F.store files.old) (S.bytes out.old) (S.bytes out.new) }
-    ensures words { result ≡ 2 → (row_of (words_of words.now) ≡ None) × Grows (S.bytes out.old) usage_text (S.bytes out.new) }
-    ensures no_command { row_of (words_of words.now) ≡ None → (result ≡ 2) ⊎ (result ≡ 6) ⊎ (result ≡ 8) }
+    ensures refused { result ≡ 1 → TellsOfCheck refuse (words_of words.now) (F.store files.old) (S.bytes out.old) (S.bytes out.new) }
+    ensures words { result ≡ 2 → TellsUsage (words_of words.now) (F.store files.old) (S.bytes out.old) (S.bytes out.new) }
+    ensures no_command { command_of (words_of words.now) ≡ None → (result ≡ 2) ⊎ (result ≡ 6) ⊎ (result ≡ 8) }
     ensures input { result ≡ 3 → Tells bad_input (words_of words.now) (F.store files.old) (S.bytes out.old) (S.bytes out.new) }
     ensures missing { result ≡ 4 → Rose (F.missing files.old) (F.missing files.new)
         × TellsMissing (words_of words.now) (F.store files.old) (S.bytes out.old) (S.bytes out.new) }

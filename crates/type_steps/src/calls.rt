@@ -1,6 +1,6 @@
 //! Calls, and what they ask of arguments.
 
-ghost use Rattle.std.specs.Prelude.{◌≡◌};
+ghost use Rattle.std.specs.Prelude.{◌≡◌, nat_eq};
 ghost use Rattle.std.specs.Option.{option_copied};
 ghost use Rattle.type_rules.specs.Faults.{first_from};
 ghost use Rattle.type_rules.specs.Rules as rules;
@@ -77,7 +77,7 @@ pub fn finished<'a>(done: bool, name: &'a Name, at: usize, best: &mut Option<Fau
 }
 
 /// A call whose function gives the type, with so many arguments as it has parameters or not.
-pub fn counted<'a>(
+fn counted<'a>(
     same: bool,
     at: usize,
     want: Option<TyRef<'a>>,
@@ -95,7 +95,7 @@ pub fn counted<'a>(
 }
 
 /// The type that a function gives, where its first argument has the other one.
-pub fn given_type<'a>(
+fn given_type<'a>(
     globals: &Globals,
     gives: &'a Option<Ty>,
     one: Option<TyRef<'a>>,
@@ -106,4 +106,28 @@ pub fn given_type<'a>(
         Some(ty) => known(globals, ty),
         None => one,
     }
+}
+
+/// A call of a function that gives what is written for it, if that is, with so many parameters and so many arguments, the first of which has the type.
+pub fn call_type<'a>(
+    globals: &Globals,
+    gives: &'a Option<Ty>,
+    params: usize,
+    args: usize,
+    at: usize,
+    want: Option<TyRef<'a>>,
+    one: Option<TyRef<'a>>,
+    best: &mut Option<FaultRef<'a>>,
+) -> Option<TyRef<'a>>
+    ensures answer { maybe_type result ≡ (rules.counted (nat_eq params args) at (maybe_type want.entry) (rules.given_type globals.now gives.now (maybe_type one.entry))).type }
+    ensures first { maybe_fault best.new ≡ first_from (maybe_fault best.old)
+        (rules.counted (nat_eq params args) at (maybe_type want.entry) (rules.given_type globals.now gives.now (maybe_type one.entry))).faults }
+{
+    counted(
+        params == args,
+        at,
+        want,
+        given_type(globals, gives, one),
+        best,
+    )
 }

@@ -9,7 +9,7 @@ mod patterns;
 mod slices;
 mod statements;
 
-pub use calls::{asked_slot, counted, finished, given_type, narrowed, slot_of, slots_after};
+pub use calls::{asked_slot, call_type, finished, narrowed, slot_of, slots_after};
 pub use chains::{
     chain_type, count, heads, is_chain_of, is_join, is_known, joined, least_width, widened,
 };

@@ -1,0 +1,1 @@
+register PC : bits(64) function instr(op : bits(32)) -> unit = () function instr16(op : bits(16)) -> unit = ()
