@@ -12,7 +12,8 @@ use Rattle.machine_core.specs.Machine.{Machine, pc_of}
 use Rattle.machine_core.specs.Program.{machine_of}
 use Rattle.machine_core.specs.Safe.{IsSafe}
 use Rattle.machine_core.specs.First.{Constants, Walked, left, outside, fails, too_many, walk_from, FitsForm, spec_of, no_transitions, no_variables}
-use Rattle.machine_core.proofs.Safety.{same_bits, walked_safe}
+use Rattle.machine_core.proofs.Entries.{same_bits}
+use Rattle.machine_core.proofs.Safety.{walked_safe}
 use Rattle.constants_run.specs.declared.run_form.RunEnd.{RunEnd}
 use Rattle.constants_run.specs.declared.run_form.RunEnd.TheVariants as run_end
 use Rattle.constants_run.specs.RunForm.{entry_state, has_bits, has_values, ended_at, most_instructions, run_end_of}
@@ -65,7 +66,7 @@ arrives m c k (too_many pc) w e = let n : 4 ≡ 0 = ap end_number e in absurd (o
 pub accepted_safe : (defs : List Definition) (c : Constants) (k : ℕ) → IsQuietProgram defs → FitsForm (machine_of defs) c
     → slice_index_or (machine_of defs).widths (machine_of defs).pc 0 ≡ 64 → All (IsSet (machine_of defs).widths (machine_of defs).pc) c.entry
     → AllPairs ◌≢◌ (map (λ v. v.0) c.entry)
-    → run_end_of (machine_of defs) c ≡ run_end.Accepted k → IsSafe no_variables no_variables (machine_of defs) no_transitions [] (spec_of c)
+    → run_end_of (machine_of defs) c ≡ run_end.Accepted k → IsSafe no_variables no_variables no_variables (machine_of defs) no_transitions [] (spec_of c)
 unfolding run_end_of
 accepted_safe defs c k quiet fits wide each differ h =
     let m : Machine = machine_of defs in

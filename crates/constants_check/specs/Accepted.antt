@@ -28,4 +28,4 @@ pub record IsAccepted (sail image proof report : Text) : Type 0 where
   pub constants_are : constants_for defs says loaded.memory ≡ Some constants
   pub code_is : HasBytes loaded.memory constants.lo constants.code
   pub report_is : report ≡ report_of says count
-  pub safe : IsSafe no_variables no_variables (machine_of defs) no_transitions [] (spec_of constants)
+  pub safe : IsSafe no_variables no_variables no_variables (machine_of defs) no_transitions [] (spec_of constants)

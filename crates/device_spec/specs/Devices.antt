@@ -5,7 +5,7 @@ use Rattle.std.specs.Bool.{beq}
 use Rattle.bv_bits.specs.declared.Bits.{Bits}
 use Rattle.state_core.specs.declared.kinds.DevEvent.{DevEvent}
 use Rattle.state_core.specs.declared.kinds.Range.{Range}
-use Rattle.state_core.specs.Devices.{Taken, goes_to, no_candidate, off, Transitions}
+use Rattle.state_core.specs.Devices.{Taken, goes_to, no_transition, off, Transitions}
 use Rattle.term_tree.specs.Terms.{Text, Tree, IsTyped, width_of}
 use Rattle.term_tree.specs.Values as values
 use Rattle.term_tree.specs.Values.{Values, values_of}
@@ -68,7 +68,7 @@ chosen (Some t) = goes_to t.to
 
 -- what is made of an event with these candidates
 abbrev pub taken_among : ℕ → List PlainTransition → Taken
-taken_among value [] = no_candidate
+taken_among value [] = no_transition
 taken_among value (t ∷ ts) = chosen (first_holding value (t ∷ ts))
 
 -- what a device makes of an event in a state
@@ -78,7 +78,7 @@ taken d q e = taken_among e.value (candidates d.transitions q e)
 -- the state that this leads to
 abbrev pub led_to : Taken → Option ℕ
 led_to (goes_to q) = Some q
-led_to no_candidate = None
+led_to no_transition = None
 led_to off = None
 
 -- the state that an event leads to by some transitions, if it is taken
@@ -97,7 +97,7 @@ ranges_of ds = map (λ d. record { lo = d.lo; hi = d.hi }) ds
 
 -- what a device that is there makes of an event
 abbrev pub taken_if : Option PlainDevice → ℕ → DevEvent → Taken
-taken_if None q e = no_candidate
+taken_if None q e = no_transition
 taken_if (Some d) q e = taken d q e
 
 -- what the devices make of events, each by its number

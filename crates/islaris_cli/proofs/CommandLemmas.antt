@@ -6,7 +6,7 @@ use Rattle.std.specs.List.{list_any}
 use Rattle.std.specs.declared.option.Option.{Option}
 use Rattle.lex_core.specs.Classes.{Text}
 use Rattle.report_text.specs.Names.{Row}
-use Rattle.state_core.specs.declared.kinds.Word.{Word}
+use Rattle.state_core.specs.declared.word.Word.{Word}
 use Rattle.trace_words.specs.Given.{GivenSaid}
 use Rattle.trace_words.specs.Opcode.{opcode_of}
 use Rattle.trace_words.specs.Trace.{TraceSaid, trace_of, givens_of}

@@ -1,3 +1,4 @@
+pub mod Entries
 pub mod Frame
 pub mod Parts
 pub mod Pc

@@ -1,5 +1,5 @@
 -- The parts of a specification over constants.
-use Rattle.std.proofs.Common.{◌≡◌, ◌≢◌, ℕ, zero, suc, ◌+◌, ◌-◌, ◌<◌, ◌≤◌, List, [], ◌∷◌, ◌++◌, length, refl, sym, ap, subst, arith, All, Contains, map}
+use Rattle.std.proofs.Common.{◌≡◌, ◌≢◌, ℕ, zero, suc, ◌+◌, ◌-◌, ◌<◌, ◌≤◌, List, [], ◌∷◌, ◌++◌, length, refl, sym, ap, ◌∙◌, subst, arith, All, Contains, map}
 use Rattle.std.specs.Prelude.{slice_index_or, AllPairs}
 use Rattle.std.proofs.lemmas.List.Elements.{All-head, All-tail, All-cons, All-nil}
 use Rattle.bv_bits.specs.declared.Bits.{Bits}
@@ -103,3 +103,19 @@ pub parts_differ : (n lo : ℕ) (vs : List (ℕ × Bits)) → AllPairs ◌≢◌
 parts_differ zero lo vs h = registers_differ vs h
 parts_differ (suc n) lo vs h =
     AllPairs-cons ◌≢◌ (byte lo) (bytes_from (lo + 1) n ++ registers_in vs) (byte_fresh n (lo + 1) lo (omega arith) vs) (parts_differ n (lo + 1) vs h)
+
+-- ---- registers are no bytes
+
+byte_alone : (n lo i : ℕ) (d : Part) → i < length (bytes_from lo n ++ []) → is_byte (slice_index_or (bytes_from lo n ++ []) i d) ≡ 0
+byte_alone zero lo i d below = absurd (omega (arith, below))
+byte_alone (suc n) lo zero d below = refl
+byte_alone (suc n) lo (suc i) d below = byte_alone n (lo + 1) i d (omega (arith, below))
+
+register_free : (n lo r : ℕ) → Contains (bytes_from lo n ++ []) (register r) → ⊥
+register_free n lo r h =
+    let e : 0 ≡ 1 = sym (byte_alone n lo h.0 (register r) h.1) ∙ ap is_byte h.2 in absurd (omega (arith, e))
+
+pub registers_free : (n lo : ℕ) (vs : List (ℕ × Bits)) → All (λ p. Contains (bytes_from lo n ++ []) p → ⊥) (registers_in vs)
+registers_free n lo [] = All-nil (λ p. Contains (bytes_from lo n ++ []) p → ⊥)
+registers_free n lo (v ∷ vs) =
+    All-cons (λ p. Contains (bytes_from lo n ++ []) p → ⊥) (register v.0) (registers_in vs) (register_free n lo v.0) (registers_free n lo vs)

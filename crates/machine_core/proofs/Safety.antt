@@ -1,32 +1,33 @@
 -- A walk of one state that leaves the code at the exit makes the run of every state that meets the entry safe.
-use Rattle.std.proofs.Common.{◌≡◌, ◌≢◌, ℕ, zero, suc, ◌+◌, ◌-◌, ◌^◌, ◌<◌, ◌≤◌, List, [], ◌∷◌, ◌++◌, length, refl, sym, ap, ◌∙◌, subst, arith, Bool, true, false, T, Some, None, All, Contains, map, ◌⊎◌, inl, inr}
+use Rattle.std.proofs.Common.{◌≡◌, ◌≢◌, ℕ, zero, suc, ◌+◌, ◌-◌, ◌^◌, ◌<◌, ◌≤◌, List, [], ◌∷◌, ◌++◌, length, refl, sym, ap, ◌∙◌, subst, arith, Bool, true, false, T, Some, None, All, Contains, ◌⊎◌, inl, inr}
 use Rattle.std.specs.Prelude.{slice_index_or, if◌then◌else◌, nat_lt, nat_le, nat_eq, ◌&&◌}
 use Rattle.std.specs.List.{position}
 use Rattle.std.specs.declared.option.Option.{Option}
 use Rattle.std.proofs.lemmas.Bool.{leb-true}
 use Rattle.std.proofs.Common.{eq-eqb, eqb-true}
-use Rattle.std.proofs.lemmas.List.{length-map, ext_get_or, get_or-map}
+use Rattle.std.proofs.lemmas.List.{length-map}
 use Rattle.std.proofs.lemmas.List.Elements.{All-head, All-tail, All-cons, All-append, All-push, All-nil, All-weaker, All-same, Contains-append_left, Contains-append_right}
 use Rattle.bv_bits.specs.declared.Bits.{Bits}
-use Rattle.bv_bits.specs.Bits.{width_of}
 use Rattle.sail_syntax.specs.Program.{Definition, registers_of}
 use Rattle.state_core.specs.declared.kinds.AccessKind.TheVariants as access
 use Rattle.state_core.specs.declared.kinds.FaultKind.{FaultKind}
-use Rattle.state_core.specs.State.{State, register_of, widths_of}
+use Rattle.state_core.specs.State.{State, register_of}
 use Rattle.state_core.specs.World.{World, start, gets}
 use Rattle.state_core.specs.Memory.{logged, fetch}
 use Rattle.state_core.specs.Claims.{register, register_is, bytes_are, HasBytes, Holds, bytes_from, all_parts, IsDisjoint}
-use Rattle.state_core.specs.Devices.{Judged, all_taken, lacks_candidate, write_off, read_off, judge}
+use Rattle.state_core.specs.Devices.{Judged, all_taken, no_candidate, write_off, read_off, judge}
 use Rattle.sail_eval.specs.Instr.{Ended, whole, cut}
 use Rattle.sail_eval.specs.Uses.{Use, reads, writes}
 use Rattle.sail_types.specs.Typing.{width_in}
 use Rattle.sail_eval.specs.Quiet.{IsMatchFail, IsQuietRun, with_registers, register_in}
 use Rattle.machine_core.specs.Machine.{Machine, pc_of, executed, step, used, step_uses, Stop, at_count, at_exit, at_fault, at_answer, Ran, exit_of, followed, stepped, run}
 use Rattle.machine_core.specs.Program.{machine_of}
-use Rattle.machine_core.specs.Safe.{Specification, code_claims, code_parts, own, AccessInside, FetchInside, UseInside, EventInside, ExitHolds, IsSafeRun, IsSafe}
+use Rattle.machine_core.specs.Routine.{Routine, code_claims, cover_parts, own}
+use Rattle.machine_core.specs.Safe.{AccessInside, FetchInside, UseInside, EventInside, ExitHolds, IsCleanRun, IsSafeRun, IsSafe}
 use Rattle.machine_core.specs.First.{Constants, end_of, values_are, spec_of, no_transitions, no_variables, is_inside, Walked, left, outside, fails, too_many, next_of, walk_from, FitsForm, IsPartial, IsMatchCut}
+use Rattle.machine_core.proofs.Entries.{entry_registers}
 use Rattle.machine_core.proofs.Frame.{word_in, fetch_there}
-use Rattle.machine_core.proofs.Parts.{registers_in, parts_are, bytes_in, register_contained, parts_differ}
+use Rattle.machine_core.proofs.Parts.{registers_in, parts_are, bytes_in, register_contained, parts_differ, registers_free}
 
 abbrev walked_number : Walked → ℕ
 walked_number (left k l) = 0
@@ -42,9 +43,9 @@ stop_number at_answer = 3
 
 abbrev judged_number : Judged → ℕ
 judged_number (all_taken states) = 0
-judged_number lacks_candidate = 1
-judged_number write_off = 2
-judged_number read_off = 3
+judged_number (no_candidate i) = 1
+judged_number (write_off i) = 2
+judged_number (read_off i) = 3
 
 -- ---- how a walk goes on that ends by leaving the code
 
@@ -99,7 +100,7 @@ module _ (defs : List Definition) (law : (word : ℕ) (from : List Bits) → IsQ
   abbrev m : Machine
   m = machine_of defs
 
-  abbrev spec : Specification (Unit {0}) (Unit {0})
+  abbrev spec : Routine (Unit {0}) (Unit {0}) (Unit {0})
   spec = spec_of c
 
   -- the PC of registers
@@ -197,24 +198,24 @@ module _ (defs : List Definition) (law : (word : ℕ) (from : List Bits) → IsQ
 
   -- a world whose past is harmless
   record IsGood (w : World) : Type 0 where
-    pub accesses : All (AccessInside [] spec tt) w.accesses
+    pub accesses : All (AccessInside [] spec tt tt) w.accesses
     pub fetches : All (FetchInside spec) w.accesses
     pub events : w.events ≡ []
     pub code : HasBytes w.state.memory c.lo c.code
 
-  code_in : (a n : ℕ) → c.lo ≤ a → a + n ≤ end_of c → All (Contains (code_parts spec)) (bytes_from a n)
+  code_in : (a n : ℕ) → c.lo ≤ a → a + n ≤ end_of c → All (Contains (cover_parts spec)) (bytes_from a n)
   code_in a n low fits =
-      All-weaker (Contains (bytes_from c.lo (length c.code))) (Contains (code_parts spec))
+      All-weaker (Contains (bytes_from c.lo (length c.code))) (Contains (cover_parts spec))
       (λ x h. Contains-append_left (bytes_from c.lo (length c.code)) [] x h) (bytes_from a n) (bytes_in (length c.code) c.lo a n low fits)
 
-  owned_in : (a n : ℕ) → c.lo ≤ a → a + n ≤ end_of c → All (Contains (own spec tt)) (bytes_from a n)
+  owned_in : (a n : ℕ) → c.lo ≤ a → a + n ≤ end_of c → All (Contains (own spec tt tt)) (bytes_from a n)
   owned_in a n low fits =
-      All-weaker (Contains (bytes_from c.lo (length c.code))) (Contains (own spec tt))
+      All-weaker (Contains (bytes_from c.lo (length c.code))) (Contains (own spec tt tt))
       (λ x h. Contains-append_left (bytes_from c.lo (length c.code)) (all_parts (values_are c.entry)) x h) (bytes_from a n) (bytes_in (length c.code) c.lo a n low fits)
 
   good_behind : (rs : List Bits) (w : World) → IsGood w → c.lo ≤ pc_in rs → pc_in rs + 4 ≤ end_of c → IsGood (behind rs w)
   good_behind rs w good low fits = record {
-    accesses = All-push (AccessInside [] spec tt) w.accesses (record { kind = access.Fetch; addr = pc_in rs; bytes = 4 }) good.accesses (inl (owned_in (pc_in rs) 4 low fits));
+    accesses = All-push (AccessInside [] spec tt tt) w.accesses (record { kind = access.Fetch; addr = pc_in rs; bytes = 4 }) good.accesses (inl (owned_in (pc_in rs) 4 low fits));
     fetches = All-push (FetchInside spec) w.accesses (record { kind = access.Fetch; addr = pc_in rs; bytes = 4 }) good.fetches (λ e. code_in (pc_in rs) 4 low fits);
     events = good.events;
     code = good.code;
@@ -289,28 +290,28 @@ module _ (defs : List Definition) (law : (word : ℕ) (from : List Bits) → IsQ
     -- ---- what a safe run has
 
     module _ (fits : FitsForm m c) where
-      register_owned : (r : ℕ) → r < length (registers_of defs) → r ≢ m.pc → Contains (own spec tt) (register r)
+      register_owned : (r : ℕ) → r < length (registers_of defs) → r ≢ m.pc → Contains (own spec tt tt) (register r)
       register_owned r below other =
           let size : length m.widths ≡ length (registers_of defs) = length-map (registers_of defs) width_in in
           Contains-append_right (bytes_from c.lo (length c.code)) (all_parts (values_are c.entry)) (register r)
           (subst (λ ps. Contains ps (register r)) (sym (parts_are c.entry)) (register_contained c.entry r (fits.owned r (omega (arith, size, below)) other)))
 
-      pc_or_owned : (r : ℕ) → r < length (registers_of defs) → (r ≡ m.pc) ⊎ Contains (own spec tt) (register r)
-      pc_or_owned r below = elim (nat_eq r m.pc) as (λ b. nat_eq r m.pc ≡ b → (r ≡ m.pc) ⊎ Contains (own spec tt) (register r)) [
+      pc_or_owned : (r : ℕ) → r < length (registers_of defs) → (r ≡ m.pc) ⊎ Contains (own spec tt tt) (register r)
+      pc_or_owned r below = elim (nat_eq r m.pc) as (λ b. nat_eq r m.pc ≡ b → (r ≡ m.pc) ⊎ Contains (own spec tt tt) (register r)) [
         | true ↦ λ is. inl (eqb-true r m.pc is)
         | false ↦ λ off. inr (register_owned r below (λ same. no_end r m.pc same off))
       ] refl
 
-      use_inside : (u : Use) → Declared u → UseInside m spec tt u
+      use_inside : (u : Use) → Declared u → UseInside m spec tt tt u
       use_inside (reads r) below = elim (pc_or_owned r below) [ inl z ↦ inl z | inr o ↦ inr (inr o) ]
       use_inside (writes r) below = pc_or_owned r below
 
-      exit_owned : (vs : List (ℕ × Bits)) → All (λ v. v.0 < length m.widths) vs → All (λ v. v.0 ≢ m.pc) vs → All (Contains (own spec tt)) (registers_in vs)
-      exit_owned [] there other = All-nil (Contains (own spec tt))
+      exit_owned : (vs : List (ℕ × Bits)) → All (λ v. v.0 < length m.widths) vs → All (λ v. v.0 ≢ m.pc) vs → All (Contains (own spec tt tt)) (registers_in vs)
+      exit_owned [] there other = All-nil (Contains (own spec tt tt))
       exit_owned (v ∷ vs) there other =
           let size : length m.widths ≡ length (registers_of defs) = length-map (registers_of defs) width_in in
           let below = All-head (λ v. v.0 < length m.widths) v vs there in
-          All-cons (Contains (own spec tt)) (register v.0) (registers_in vs)
+          All-cons (Contains (own spec tt tt)) (register v.0) (registers_in vs)
           (register_owned v.0 (omega (arith, size, below)) (All-head (λ v. v.0 ≢ m.pc) v vs other))
           (exit_owned vs (All-tail (λ v. v.0 < length m.widths) v vs there) (All-tail (λ v. v.0 ≢ m.pc) v vs other))
 
@@ -322,92 +323,61 @@ module _ (defs : List Definition) (law : (word : ℕ) (from : List Bits) → IsQ
           (ap (λ rs. slice_index_or rs v.0 (record { width = 0; value = 0 })) same ∙ All-head (λ v. register_of e.state v.0 ≡ v.1) v vs are)
           (values_hold s states vs same (All-tail (λ v. register_of e.state v.0 ≡ v.1) v vs are))
 
-      code_holds : (s : State) (states : ℕ → ℕ) → HasBytes s.memory c.lo c.code → All (Holds s states) (code_claims spec)
+      code_holds : (s : State) (states : ℕ → ℕ) → HasBytes s.memory c.lo c.code → All (Holds s states) (code_claims spec.cover)
       code_holds s states has = All-cons (Holds s states) (bytes_are c.lo c.code) [] has (All-nil (Holds s states))
 
       judged : (states : ℕ → ℕ) (w : World) → IsGood w → judge no_transitions [] states w.events ≡ all_taken states
       judged states w good = ap (judge no_transitions [] states) good.events
 
       exit_holds : (states : ℕ → ℕ) (ran : Ran) → All (λ v. register_of e.state v.0 ≡ v.1) c.exit → IsGood ran.world
-          → ran.world.state.registers ≡ e.state.registers → ExitHolds no_variables m no_transitions [] spec tt states ran
-      exit_holds states ran are good same = (
-        0,
-        record { at = λ _. c.exit_at; claims = λ _ _. values_are c.exit },
-        refl,
-        sym at_end ∙ ap pc_in (sym same),
-        tt,
-        tt,
-        states,
-        judged states ran.world good,
-        record {
-          hold = All-cons (Holds ran.world.state states) (bytes_are c.lo c.code) (values_are c.exit) good.code (values_hold ran.world.state states c.exit same are);
+          → ran.world.state.registers ≡ e.state.registers → ExitHolds no_variables m no_transitions [] spec tt tt states ran
+      exit_holds states ran are good same = record {
+        index = 0;
+        exit = record { at = λ _. c.exit_at; claims = λ _ _. values_are c.exit };
+        listed = refl;
+        there = sym at_end ∙ ap pc_in (sym same);
+        value = tt;
+        is_value = tt;
+        last = states;
+        taken = judged states ran.world good;
+        meets = record {
+          hold = values_hold ran.world.state states c.exit same are;
+          code = code_holds ran.world.state states good.code;
           apart = subst (λ ps. IsDisjoint (bytes_from c.lo (length c.code) ++ ps)) (sym (parts_are c.exit)) (parts_differ (length c.code) c.lo c.exit fits.exit_differ);
-          inside = All-append (Contains (own spec tt)) (bytes_from c.lo (length c.code)) (all_parts (values_are c.exit)) (owned_in c.lo (length c.code) (omega arith) (omega arith))
-              (subst (All (Contains (own spec tt))) (sym (parts_are c.exit)) (exit_owned c.exit fits.exit_there fits.exit_other));
-        },
-      )
+          free = subst (All (λ p. Contains (cover_parts spec) p → ⊥)) (sym (parts_are c.exit)) (registers_free (length c.code) c.lo c.exit);
+          inside = subst (All (Contains (own spec tt tt))) (sym (parts_are c.exit)) (exit_owned c.exit fits.exit_there fits.exit_other);
+          outside = λ a b is. refl;
+        };
+      }
 
-      safe_run : (states : ℕ → ℕ) (ran : Ran) → All (λ v. register_of e.state v.0 ≡ v.1) c.exit → IsGoodRun e ran
-          → IsSafeRun no_variables m no_transitions [] spec tt states ran
-      safe_run states ran are run_good = record {
+      clean_run : (states : ℕ → ℕ) (ran : Ran) → IsGoodRun e ran → IsCleanRun m no_transitions [] spec tt tt states ran
+      clean_run states ran run_good = record {
         no_fault = run_good.no_fault;
         accesses = run_good.good.accesses;
         fetches = run_good.good.fetches;
-        uses = All-weaker Declared (UseInside m spec tt) use_inside ran.uses run_good.used;
+        uses = All-weaker Declared (UseInside m spec tt tt) use_inside ran.uses run_good.used;
         code = code_holds ran.world.state states run_good.good.code;
-        events = All-same (EventInside [] spec tt) ran.world.events [] run_good.good.events (All-nil (EventInside [] spec tt));
-        candidates = λ is. let h : 0 ≡ 1 = ap judged_number (sym (judged states ran.world run_good.good) ∙ is) in absurd (omega (arith, h));
-        writes_on = λ is. let h : 0 ≡ 2 = ap judged_number (sym (judged states ran.world run_good.good) ∙ is) in absurd (omega (arith, h));
-        exit = λ i is. exit_holds states ran are run_good.good (run_good.ends i is);
+        events = All-same (EventInside [] spec tt tt) ran.world.events [] run_good.good.events (All-nil (EventInside [] spec tt tt));
+        candidates = λ i is. let h : 0 ≡ 1 = ap judged_number (sym (judged states ran.world run_good.good) ∙ is) in absurd (omega (arith, h));
+        writes_on = λ i is. let h : 0 ≡ 2 = ap judged_number (sym (judged states ran.world run_good.good) ∙ is) in absurd (omega (arith, h));
       }
 
--- ---- the registers of an entry
-
--- values are the same where their widths and their numbers are
-pub same_bits : (a b : Bits) → a.width ≡ b.width → a.value ≡ b.value → a ≡ b
-same_bits a b w v = λ i. record { width = w i; value = v i }
-
-values_same : (s p : State) (states : ℕ → ℕ) (r : ℕ) (vs : List (ℕ × Bits)) → All (Holds s states) (values_are vs) → All (λ v. register_of p v.0 ≡ v.1) vs
-    → (i : ℕ) → i < length (map (λ v. v.0) vs) → slice_index_or (map (λ v. v.0) vs) i r ≡ r → register_of s r ≡ register_of p r
-values_same s p states r [] holds are i below is = absurd (omega (arith, below))
-values_same s p states r (v ∷ vs) holds are zero below is =
-    ap (register_of s) (sym is) ∙ All-head (Holds s states) (register_is v.0 (Some v.1)) (values_are vs) holds
-    ∙ sym (All-head (λ v. register_of p v.0 ≡ v.1) v vs are) ∙ ap (register_of p) is
-values_same s p states r (v ∷ vs) holds are (suc i) below is =
-    values_same s p states r vs (All-tail (Holds s states) (register_is v.0 (Some v.1)) (values_are vs) holds)
-    (All-tail (λ v. register_of p v.0 ≡ v.1) v vs are) i (omega (arith, below)) is
-
-width_at : (s : State) (r : ℕ) → r < length s.registers → (register_of s r).width ≡ slice_index_or (widths_of s) r 0
-width_at s r below = sym (get_or-map width_of s.registers r (record { width = 0; value = 0 }) 0 below)
-
-entry_registers : (m : Machine) (c : Constants) (s p : State) (states : ℕ → ℕ) → FitsForm m c → IsPartial m c p → widths_of s ≡ m.widths
-    → pc_of m s ≡ c.entry_at → All (Holds s states) (values_are c.entry) → s.registers ≡ p.registers
-entry_registers m c s p states fits partial widths pc holds =
-    let ws : widths_of s ≡ widths_of p = widths ∙ sym partial.widths in
-    let size_s = length-map s.registers width_of in
-    let size_p = length-map p.registers width_of in
-    let sizes : length (widths_of s) ≡ length (widths_of p) = ap length ws in
-    let size_m : length (widths_of s) ≡ length m.widths = ap length widths in
-    ext_get_or (record { width = 0; value = 0 }) s.registers p.registers (sym size_s ∙ sizes ∙ size_p)
-    (λ r below. elim (nat_eq r m.pc) as (λ b. nat_eq r m.pc ≡ b → register_of s r ≡ register_of p r) [
-      | true ↦ λ is. let at : r ≡ m.pc = eqb-true r m.pc is in
-          same_bits (register_of s r) (register_of p r)
-          (width_at s r below ∙ ap (λ w. slice_index_or w r 0) ws ∙ sym (width_at p r (omega (arith, below, size_s, size_p, sizes))))
-          (ap (λ n. (register_of s n).value) at ∙ pc ∙ sym partial.pc ∙ ap (λ n. (register_of p n).value) (sym at))
-      | false ↦ λ off. let h = fits.owned r (omega (arith, below, size_s, size_m)) (λ same. no_end r m.pc same off) in
-          values_same s p states r c.entry holds partial.values h.0 h.1 h.2
-    ] refl)
+      safe_run : (states : ℕ → ℕ) (ran : Ran) → All (λ v. register_of e.state v.0 ≡ v.1) c.exit → IsGoodRun e ran
+          → IsSafeRun no_variables m no_transitions [] spec tt tt states ran
+      safe_run states ran are run_good = record {
+        clean = clean_run states ran run_good;
+        exit = λ i is. exit_holds states ran are run_good.good (run_good.ends i is);
+      }
 
 pub walked_safe : (defs : List Definition) → ((word : ℕ) (from : List Bits) → IsQuietRun defs word from) → (c : Constants) (p : State) (k l room : ℕ) (e : World)
     → FitsForm (machine_of defs) c → IsPartial (machine_of defs) c p → walk_from (machine_of defs) c 0 c.entry_at room (start p []) ≡ (left k l, e)
     → pc_of (machine_of defs) e.state ≡ c.exit_at → All (λ v. register_of e.state v.0 ≡ v.1) c.exit
-    → IsSafe no_variables no_variables (machine_of defs) no_transitions [] (spec_of c)
-walked_safe defs law c p k l room e fits partial walk at_end are = λ v s states answers n _ entry _ _.
+    → IsSafe no_variables no_variables no_variables (machine_of defs) no_transitions [] (spec_of c)
+walked_safe defs law c p k l room e fits partial walk at_end are = λ f v s states answers n _ _ entry _ _.
     let m : Machine = machine_of defs in
-    let has = All-head (Holds s states) (bytes_are c.lo c.code) (values_are c.entry) entry.meets.hold in
-    let same = entry_registers m c s p states fits partial entry.widths entry.pc
-    (All-tail (Holds s states) (bytes_are c.lo c.code) (values_are c.entry) entry.meets.hold) in
+    let has = All-head (Holds s states) (bytes_are c.lo c.code) [] entry.meets.code in
+    let same = entry_registers m c s p states fits partial entry.widths entry.pc entry.meets.hold in
     safe_run defs law c fits.place fits.exit_outside e k l at_end fits states (run m [] (c.exit_at ∷ []) n (start s answers)) are
     (good_from defs law c fits.place fits.exit_outside e k l at_end n 0 c.entry_at room (start p []) (start s answers) partial.code same
-    (record { accesses = All-nil (AccessInside [] (spec_of c) tt); fetches = All-nil (FetchInside (spec_of c)); events = refl; code = has })
+    (record { accesses = All-nil (AccessInside [] (spec_of c) tt tt); fetches = All-nil (FetchInside (spec_of c)); events = refl; code = has })
     (ap (is_inside c) partial.pc ∙ fits.entry_inside) walk)

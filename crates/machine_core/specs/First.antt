@@ -5,10 +5,10 @@ use Rattle.state_core.specs.State.{State, register_of, widths_of}
 use Rattle.state_core.specs.declared.kinds.FaultKind.TheVariants as kind
 use Rattle.state_core.specs.World.{World, fault}
 use Rattle.state_core.specs.Claims.{Claim, register_is, HasBytes}
-use Rattle.state_core.specs.Devices.{Transitions, no_candidate}
+use Rattle.state_core.specs.Devices.{Transitions, no_transition}
 use Rattle.sail_eval.specs.Instr.{Ended, whole, cut}
 use Rattle.machine_core.specs.Machine.{Machine, pc_of, step}
-use Rattle.machine_core.specs.Safe.{Specification}
+use Rattle.machine_core.specs.Routine.{Routine}
 
 -- the code's first address and its bytes; where the entry is, and the values of registers there; where the exit is, and the values of
 -- registers there
@@ -28,19 +28,20 @@ end_of c = c.lo + length c.code
 abbrev pub values_are : List (ℕ × Bits) → List Claim
 values_are vs = map (λ v. register_is v.0 (Some v.1)) vs
 
--- the specification: no variables, nothing assumed
-abbrev pub spec_of : Constants → Specification (Unit {0}) (Unit {0})
+-- the specification: no variables, nothing assumed, and nothing called, so that its own code is its cover
+abbrev pub spec_of : Constants → Routine (Unit {0}) (Unit {0}) (Unit {0})
 spec_of c = record {
   entry_at = c.entry_at;
-  entry = λ _. values_are c.entry;
+  entry = λ _ _. values_are c.entry;
   assumed = [];
-  code = (c.lo, c.code) ∷ [];
+  beside = (c.lo, c.code) ∷ [];
+  cover = (c.lo, c.code) ∷ [];
   exits = record { at = λ _. c.exit_at; claims = λ _ _. values_are c.exit } ∷ [];
 }
 
 -- no device has a transition
 abbrev pub no_transitions : Transitions
-no_transitions = λ d q e. no_candidate
+no_transitions = λ d q e. no_transition
 
 -- the variables' values: there is none
 abbrev pub no_variables : Unit {0} → Type 0

@@ -20,7 +20,7 @@ pub fn walked_is_safe()
         → IsQuietProgram defs → FitsForm (machine_of defs) c → IsPartial (machine_of defs) c p
         → walk_from (machine_of defs) c 0 c.entry_at room (start p []) ≡ (left count last, w)
         → pc_of (machine_of defs) w.state ≡ c.exit_at → All (λ v. register_of w.state v.0 ≡ v.1) c.exit
-        → IsSafe no_variables no_variables (machine_of defs) no_transitions [] (spec_of c) }
+        → IsSafe no_variables no_variables no_variables (machine_of defs) no_transitions [] (spec_of c) }
 {}
 
 /// In a program that touches registers alone, a walk through code that is there fails for nothing but a match without a

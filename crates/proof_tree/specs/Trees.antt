@@ -1,7 +1,7 @@
 -- Proof files as plain data.
 use Rattle.std.specs.Prelude.{ℕ, List, Option}
 use Rattle.bv_bits.specs.declared.Bits.{Bits}
-use Rattle.state_core.specs.declared.kinds.Word.{Word}
+use Rattle.state_core.specs.declared.word.Word.{Word}
 use Rattle.clause_core.specs.declared.CertStep.{CertStep}
 use Rattle.term_tree.specs.declared.term.VarDecl.{VarDecl}
 use Rattle.term_tree.specs.Terms.{Text, Tree, ArrayTree}

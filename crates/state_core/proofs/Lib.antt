@@ -1,3 +1,7 @@
 mod View
 mod Present
+mod Digits
+mod Written
+mod Reached
 mod Zeros
+mod Judging

@@ -1,8 +1,10 @@
 -- What an assertion says once its variables have values, and which parts of the machine it takes.
-use Rattle.std.specs.Prelude.{◌≡◌, ◌≢◌, ℕ, zero, suc, ◌+◌, List, [], ◌∷◌, ◌++◌, Bool, IsTrue, length, All, AllPairs, Contains, Option, Some, IfSome}
+use Rattle.std.specs.Prelude.{◌≡◌, ◌≢◌, ℕ, zero, suc, ◌+◌, List, [], ◌∷◌, ◌++◌, Bool, false, IsTrue, length, All, AllPairs, Contains, Option, Some, IfSome}
 use Rattle.std.specs.FinMap.{get}
 use Rattle.bv_bits.specs.declared.Bits.{Bits}
+use Rattle.state_core.specs.declared.kinds.Range.{Range}
 use Rattle.state_core.specs.State.{State, Memory, register_of}
+use Rattle.state_core.specs.Memory.{touches}
 
 -- a part of the machine
 pub data Part : Type 0 where
@@ -57,8 +59,15 @@ Holds s devices (device_is d q) = devices d ≡ q
 abbrev pub IsDisjoint : List Part → Type 0
 IsDisjoint parts = AllPairs ◌≢◌ parts
 
--- a state and the states of the devices meet the claims, each in parts of its own, all of them among the owned ones
-pub record Meets (s : State) (devices : ℕ → ℕ) (owned : List Part) (claims : List Claim) : Type 0 where
+-- a state and the states of the devices meet claims beside some code and under a cover of code
+pub record Meets (ranges : List Range) (s : State) (devices : ℕ → ℕ) (owned : List Part) (beside cover claims : List Claim) : Type 0 where
+  -- each claim is true, and the cover is there
   pub hold : All (Holds s devices) claims
-  pub apart : IsDisjoint (all_parts claims)
+  pub code : All (Holds s devices) cover
+  -- the claims and the code beside them take parts of their own, and no claim takes one of the cover's
+  pub apart : IsDisjoint (all_parts (beside ++ claims))
+  pub free : All (λ p. Contains (all_parts cover) p → ⊥) (all_parts claims)
+  -- the parts that the claims take are owned
   pub inside : All (Contains owned) (all_parts claims)
+  -- no byte of the state lies in the range of a device
+  pub outside : (a b : ℕ) → get s.memory a ≡ Some b → touches ranges a 1 ≡ false

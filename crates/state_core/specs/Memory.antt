@@ -1,5 +1,5 @@
 -- Accesses to memory and to devices.
-use Rattle.std.specs.Prelude.{ℕ, zero, suc, ◌+◌, ◌*◌, ◌^◌, ◌%◌, ◌/◌, Bool, true, false, ◌&&◌, if◌then◌else◌, nat_le, nat_lt, List, [], ◌∷◌, ◌++◌, Option, Some, None, is_some, option_and_then}
+use Rattle.std.specs.Prelude.{ℕ, zero, suc, ◌+◌, ◌*◌, ◌^◌, ◌%◌, ◌/◌, Bool, true, false, ◌&&◌, if◌then◌else◌, nat_le, nat_lt, min, max, List, [], ◌∷◌, ◌++◌, Option, Some, None, is_some, option_and_then}
 use Rattle.std.specs.List.{list_any}
 use Rattle.std.specs.FinMap.{get, insert}
 use Rattle.state_core.specs.declared.kinds.FaultKind.TheVariants as kind
@@ -35,9 +35,9 @@ written m at n value = if is_some (read_number m at n) then Some (with_number m 
 
 -- ---- device ranges
 
--- some of the n bytes from that address on lies in the range
+-- some of the n bytes from that address on lies in the range: none does where there are no bytes or the range is empty
 abbrev pub touches_range : ℕ → ℕ → Range → Bool
-touches_range at n r = nat_lt at r.hi && nat_lt r.lo (at + n)
+touches_range at n r = nat_lt (max at r.lo) (min (at + n) r.hi)
 
 -- the n bytes from that address on lie in the range
 abbrev pub lies_in : ℕ → ℕ → Range → Bool

@@ -21,11 +21,15 @@ abbrev pub state_code : Coded State
 state_code =
     code_by (List Bits × Memory) (coded× (coded_list the_row.coded) (code coded_ℕ coded_ℕ)) (λ s. (s.registers, s.memory)) (λ p. record { registers = p.0; memory = p.1 }) (λ _. refl)
 
+-- bytes, at addresses: each address is below 2 ^ 64, and each byte below 2 ^ 8
+pub record IsMemory (m : Memory) : Type 0 where
+  pub addresses : (a b : ℕ) → get m a ≡ Some b → a < 2 ^ 64
+  pub bytes : (a b : ℕ) → get m a ≡ Some b → b < 2 ^ 8
+
 -- a state holds values alone
 pub record IsState (s : State) : Type 0 where
   pub registers : All IsBits s.registers
-  pub addresses : (a b : ℕ) → get s.memory a ≡ Some b → a < 2 ^ 64
-  pub bytes : (a b : ℕ) → get s.memory a ≡ Some b → b < 2 ^ 8
+  pub memory : IsMemory s.memory
 
 -- the value of a register; nothing of no width where there is no such register
 abbrev pub register_of : State → ℕ → Bits

@@ -27,6 +27,24 @@ pub data Got (X : Type 0) : Type 0 where
   faults : (kind : FaultKind) → (world : World) → Got X
   lacks : (world : World) → Got X
 
+-- the world that is reached
+abbrev pub reached : {X : Type 0} → Got X → World
+reached (gets x w) = w
+reached (faults kind w) = w
+reached (lacks w) = w
+
+-- a value that is given has this
+abbrev pub IfGets : {X : Type 0} → Got X → (X → Type 0) → Type 0
+IfGets (gets x w) P = P x
+IfGets (faults kind w) P = Unit {0}
+IfGets (lacks w) P = Unit {0}
+
+-- the world that a fault reaches has this
+abbrev pub IfFaults : {X : Type 0} → Got X → (World → Type 0) → Type 0
+IfFaults (gets x w) P = Unit {0}
+IfFaults (faults kind w) P = P w
+IfFaults (lacks w) P = Unit {0}
+
 -- the world that the code's parts are
 abbrev pub world_of : State → Answers → Log → World
 world_of s answers log = record { state = s; answers = drop answers.next answers.list; accesses = log.accesses; events = log.events }

@@ -17,14 +17,6 @@ pub enum FaultKind {
     BadDevice,
 }
 
-/// The word of an instruction: 2 or 4 bytes, and the number in them, the first byte lowest.
-#[derive(Clone, Copy, Debug, PartialEq, Eq)]
-pub struct Word {
-    pub bytes: u32,
-    /// Below 2^(8 * bytes).
-    pub bits: u32,
-}
-
 /// What an access is for.
 #[derive(Clone, Copy, Debug, PartialEq, Eq)]
 pub enum AccessKind {

@@ -3,10 +3,11 @@
 
 mod bytes;
 mod kinds;
+pub mod laws;
 pub mod memory;
 mod state;
+mod word;
 
-pub use kinds::{
-    Access, AccessKind, Answers, DevEvent, DevMap, FaultKind, Log, MemStop, Range, Word,
-};
+pub use kinds::{Access, AccessKind, Answers, DevEvent, DevMap, FaultKind, Log, MemStop, Range};
 pub use state::State;
+pub use word::Word;

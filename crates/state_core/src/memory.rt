@@ -1,11 +1,13 @@
 //! The accesses of a program: fetches, loads and stores, each noted in the log.
 
-ghost use Rattle.std.specs.Prelude.{◌≡◌, ◌+◌, ◌*◌, ◌^◌, ◌<◌, ◌≤◌, drop, IfOk};
-ghost use Rattle.state_core.specs.Agrees.{Agrees};
+ghost use Rattle.std.specs.Prelude.{◌≡◌, ◌+◌, ◌*◌, ◌^◌, ◌<◌, ◌≤◌, drop, Err, IfOk};
+ghost use Rattle.state_core.specs.Agrees.{Agrees, IsMoment};
 ghost use Rattle.state_core.specs.Memory.{fetch, load, store, answered, nothing, touches_range, lies_in, touches, in_device};
 ghost use Rattle.state_core.specs.World.{world_of};
 ghost use Rattle.state_core.specs.State.{State};
+ghost use Rattle.state_core.specs.declared.kinds.AccessKind.TheVariants.{Fetch, Read, Write};
 ghost use Rattle.state_core.specs.declared.kinds.Answers.{Answers};
+ghost use Rattle.state_core.specs.declared.kinds.MemStop.TheVariants.{NoMemory};
 
 use crate::bytes::passes_end;
 use crate::kinds::{Access, AccessKind, Answers, DevEvent, DevMap, FaultKind, Log, MemStop, Range};
@@ -28,7 +30,8 @@ impl Range {
     fn touches(self, addr: u64, bytes: u32) -> bool
         ensures { result ≡ touches_range addr bytes self }
     {
-        addr < self.hi && u128::from(self.lo) < u128::from(addr) + u128::from(bytes)
+        let end = u128::from(addr) + u128::from(bytes);
+        u128::from(addr.max(self.lo)) < end.min(u128::from(self.hi))
     }
 
     /// Whether so many bytes from an address on lie in the range.
@@ -74,6 +77,7 @@ pub fn fetch(
     requires few { bytes ≤ 16 }
     ensures value { (answers : Answers) → Agrees (λ n. n) result (world_of state.now answers log.new) (fetch devs.now.ranges addr bytes (world_of state.now answers log.old)) }
     ensures fits { IfOk result (λ n. n < 2 ^ (8 * bytes)) }
+    ensures moment { (answers : Answers) → IsMoment result Fetch addr bytes (world_of state.now answers log.old) (world_of state.now answers log.new) }
 {
     log.accesses.push(Access {
         kind: AccessKind::Fetch,
@@ -96,6 +100,9 @@ pub fn fetch(
 fn answer(addr: u64, bytes: u32, answers: &mut Answers, log: &mut Log) -> Result<u128, MemStop>
     requires few { bytes ≤ 16 }
     ensures value { (state : State) → Agrees (λ n. n) result (world_of state answers.new log.new) (answered (drop answers.old.next answers.old.list) addr bytes (world_of state answers.old log.old)) }
+    ensures list { answers.new.list ≡ answers.old.list }
+    ensures fits { IfOk result (λ n. n < 2 ^ (8 * bytes)) }
+    ensures moment { result ≡ Err NoMemory → (answers.new ≡ answers.old) × (log.new ≡ log.old) }
 {
     match answers.list.as_slice().get(answers.next) {
         None => Err(MemStop::NoAnswer),
@@ -119,7 +126,8 @@ fn answer(addr: u64, bytes: u32, answers: &mut Answers, log: &mut Log) -> Result
 
 /// A read of so many bytes, at most 16, which is noted in the log first. A range that passes the last address is
 /// `NoByte`. One that touches no device range reads memory, and a byte that isn't there is `NoByte`. One that lies in
-/// a device range takes the low bytes of the next answer, or stops with `NoAnswer`. Any other one is `BadDevice`.
+/// a device range takes the low bytes of the next answer, or stops with `NoAnswer`. Any other one is `BadDevice`. The list
+/// of answers stays as it is, and the number of the next one tells those that are left.
 pub fn load(
     devs: &DevMap,
     addr: u64,
@@ -130,6 +138,9 @@ pub fn load(
 ) -> Result<u128, MemStop>
     requires few { bytes ≤ 16 }
     ensures value { Agrees (λ n. n) result (world_of state.now answers.new log.new) (load devs.now.ranges addr bytes (world_of state.now answers.old log.old)) }
+    ensures list { answers.new.list ≡ answers.old.list }
+    ensures fits { IfOk result (λ n. n < 2 ^ (8 * bytes)) }
+    ensures moment { IsMoment result Read addr bytes (world_of state.now answers.old log.old) (world_of state.now answers.new log.new) }
 {
     log.accesses.push(Access {
         kind: AccessKind::Read,
@@ -166,6 +177,7 @@ pub fn store(
     requires few { bytes ≤ 16 }
     requires fits { value < 2 ^ (8 * bytes) }
     ensures value { (answers : Answers) → Agrees (λ _. nothing) result (world_of state.new answers log.new) (store devs.now.ranges addr bytes value (world_of state.old answers log.old)) }
+    ensures moment { (answers : Answers) → IsMoment result Write addr bytes (world_of state.old answers log.old) (world_of state.new answers log.new) }
 {
     log.accesses.push(Access {
         kind: AccessKind::Write,

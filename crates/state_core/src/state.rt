@@ -3,7 +3,7 @@
 ghost use Rattle.std.specs.Prelude.{◌≡◌, ◌+◌, ◌*◌, ◌^◌, ◌<◌, ◌≤◌, true, false, length, map, All, IfOk, OnOk, OnErr, IfSome, is_some, slice_set};
 ghost use Rattle.std.specs.FinMap.{empty, insert};
 ghost use Rattle.bv_bits.specs.Bits.{IsBits, IsWidth};
-ghost use Rattle.state_core.specs.State.{register_of, zero_of};
+ghost use Rattle.state_core.specs.State.{IsState, register_of, zero_of};
 ghost use Rattle.state_core.specs.Memory.{read_number, with_number};
 
 use crate::bytes::{Bytes, number, passes_end, put_number};
@@ -22,9 +22,7 @@ pub struct State {
 }
 
 impl Model for State {
-    ghost use Rattle.std.specs.Prelude.{All};
-    ghost use Rattle.bv_bits.specs.Bits.{IsBits};
-    ghost use Rattle.state_core.specs.State.{State, state_code};
+    ghost use Rattle.state_core.specs.State.{State, IsState, state_code};
 
     ghost Value = { State };
 
@@ -32,7 +30,7 @@ impl Model for State {
 
     ghost view = { λ s. record { registers = s.registers; memory = s.memory } };
 
-    ghost invariant = { λ s. All IsBits s.registers };
+    ghost invariant = { λ s. IsState (record { registers = s.registers; memory = s.memory }) };
 }
 
 impl State {
@@ -54,10 +52,11 @@ impl State {
         })
     }
 
-    /// The number of registers.
+    /// The number of registers. A state holds values alone.
     pub fn count(&self) -> usize
         ensures value { result ≡ length self.now.registers }
         ensures registers { All IsBits self.now.registers }
+        ensures values { IsState self.now }
     {
         self.registers.len()
     }

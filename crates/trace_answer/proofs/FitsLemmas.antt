@@ -11,7 +11,7 @@ use Rattle.lex_core.specs.declared.name.RegDecl.{RegDecl}
 use Rattle.sail_syntax.specs.Program.{Definition, register_of, registers_of}
 use Rattle.sail_syntax.specs.View.{definition_of}
 use Rattle.sail_syntax.specs.declared.definitions.Def.{Def}
-use Rattle.state_core.specs.declared.kinds.Word.{Word}
+use Rattle.state_core.specs.declared.word.Word.{Word}
 use Rattle.trace_words.specs.Given.{GivenSaid}
 use Rattle.trace_words.specs.Trace.{TraceSaid}
 use Rattle.type_rules.specs.Program.{instr16_of}

@@ -3,7 +3,7 @@ use Rattle.std.specs.Prelude.{◌≡◌, ◌≢◌, ◌⊎◌, ℕ, ◌%◌, ◌
 use Rattle.std.specs.List.{list_any}
 use Rattle.lex_core.specs.declared.name.RegDecl.{RegDecl}
 use Rattle.sail_syntax.specs.Program.{Definition, registers_of}
-use Rattle.state_core.specs.declared.kinds.Word.{Word}
+use Rattle.state_core.specs.declared.word.Word.{Word}
 use Rattle.trace_words.specs.Given.{GivenSaid}
 use Rattle.trace_words.specs.Trace.{TraceSaid}
 use Rattle.type_rules.specs.Program.{instr16_of}

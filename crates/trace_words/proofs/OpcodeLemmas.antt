@@ -12,9 +12,9 @@ use Rattle.lex_core.specs.declared.token.Kind.TheVariants as kind
 use Rattle.lex_core.specs.Classes.{Text, is_in, is_underscore, digits}
 use Rattle.lex_core.specs.Forms.{are_digits, is_literal, has_form}
 use Rattle.lex_core.specs.Lexing as lexing
-use Rattle.lex_core.specs.Values.{literal_of, bits_of}
-use Rattle.state_core.specs.declared.kinds.Word.{Word}
-use Rattle.trace_words.specs.Opcode.{behind_0x, word_bytes, IsHexWord, IsWord}
+use Rattle.lex_core.specs.Values.{literal_of}
+use Rattle.state_core.specs.Word.{IsWord}
+use Rattle.trace_words.specs.Opcode.{behind_0x, word_bytes, IsHexWord}
 
 -- ---- hex digits
 

@@ -1,10 +1,10 @@
 -- The spelling of an instruction word.
-use Rattle.std.specs.Prelude.{◌≡◌, ◌<◌, ◌⊎◌, ℕ, ◌*◌, ◌^◌, ◌==◌, ◌&&◌, [], ◌∷◌, length, if◌then◌else◌, Option, Some, None, IsSome, true, option_map, option_and_then}
+use Rattle.std.specs.Prelude.{◌≡◌, ℕ, ◌==◌, ◌&&◌, [], ◌∷◌, length, if◌then◌else◌, Option, Some, None, IsSome, true, option_map, option_and_then}
 use Rattle.std.specs.Char.{is_ascii_hexdigit}
 use Rattle.std.specs.List.{list_all}
 use Rattle.std.specs.Str.Parse.{digits_value}
 use Rattle.lex_core.specs.Classes.{Text}
-use Rattle.state_core.specs.declared.kinds.Word.{Word}
+use Rattle.state_core.specs.declared.word.Word.{Word}
 
 -- what stands behind `0x`, where the text begins with it
 abbrev pub behind_0x : Text → Option Text
@@ -23,11 +23,6 @@ word_of z = if list_all is_ascii_hexdigit z then option_map (λ n. record { byte
 -- the word that a text spells: `0x`, and eight hex digits or four
 abbrev pub opcode_of : Text → Option Word
 opcode_of z = option_and_then word_of (behind_0x z)
-
--- a word of two or four bytes, and a number that fits in them
-pub record IsWord (w : Word) : Type 0 where
-  pub size : (w.bytes ≡ 2) ⊎ (w.bytes ≡ 4)
-  pub fits : w.bits < 2 ^ (8 * w.bytes)
 
 -- `0x`, and hex digits that spell a word
 pub record IsHexWord (z : Text) : Type 0 where

@@ -1,7 +1,7 @@
 -- What the words behind `trace` say.
 use Rattle.std.specs.Prelude.{List, [], ◌∷◌, map, Option, Some, None, option_map, option_and_then}
 use Rattle.lex_core.specs.Classes.{Text}
-use Rattle.state_core.specs.declared.kinds.Word.{Word}
+use Rattle.state_core.specs.declared.word.Word.{Word}
 use Rattle.trace_words.specs.Given.{GivenSaid, given_of, given_said}
 use Rattle.trace_words.specs.Opcode.{opcode_of}
 use Rattle.trace_words.specs.declared.traces.TraceGiven.{TraceGiven}

@@ -5,7 +5,8 @@ ghost use Rattle.std.specs.Option.{option_copied};
 ghost use Rattle.std.specs.Str.Parse.{digits_value};
 ghost use Rattle.std.specs.Char.{is_ascii_hexdigit};
 ghost use Rattle.std.specs.List.{list_all};
-ghost use Rattle.trace_words.specs.Opcode.{behind_0x as behind_0x_of, opcode_of, word_bytes as bytes_of, IsHexWord, IsWord};
+ghost use Rattle.state_core.specs.Word.{IsWord};
+ghost use Rattle.trace_words.specs.Opcode.{behind_0x as behind_0x_of, opcode_of, word_bytes as bytes_of, IsHexWord};
 
 use lex_core::{Kind, Lexeme};
 use state_core::Word;

@@ -3,7 +3,7 @@
 ghost use Rattle.std.specs.Prelude.{◌≡◌, ◌∷◌, map, All, IfOk, IfSome, option_map};
 ghost use Rattle.bv_bits.specs.Bits.{IsBits};
 ghost use Rattle.trace_words.specs.Given.{given_said};
-ghost use Rattle.trace_words.specs.Opcode.{IsWord};
+ghost use Rattle.state_core.specs.Word.{IsWord};
 ghost use Rattle.trace_words.specs.Trace.{givens_of, trace_of, trace_said};
 
 use crate::givens::{Given, read_given};

@@ -1,14 +1,7 @@
-use Rattle.std.proofs.Common.{◌≡◌, ℕ, ◌+◌, ◌-◌, ◌*◌, ◌^◌, ◌<◌, ◌≤◌, arith, rules, sym, subst}
-use Rattle.std.proofs.lemmas.Nat.{pow-add}
+use Rattle.std.proofs.Common.{ℕ, ◌*◌, ◌^◌, ◌<◌, ◌≤◌, arith, rules}
 use Rattle.std.proofs.Math.Pow.{pow_mono}
+use Rattle.state_core.proofs.Digits.{digit}
 use Rattle.state_core.proofs.bytes.+number.Goals as goal
-
--- one more byte
-digit : (n b rest : ℕ) → 0 < n → b < 256 → rest < 2 ^ (8 * (n - 1)) → b + 256 * rest < 2 ^ (8 * n)
-digit n b rest some byte low =
-    let split : 8 * n ≡ 8 + 8 * (n - 1) = omega arith in
-    let power : 2 ^ (8 + 8 * (n - 1)) ≡ 256 * 2 ^ (8 * (n - 1)) = pow-add 2 8 (8 * (n - 1)) in
-    subst (λ (e : ℕ). b + 256 * rest < 2 ^ e) (sym split) (subst (λ (x : ℕ). b + 256 * rest < x) (sym power) (omega (arith, byte, low)))
 
 fits : (n : ℕ) → n ≤ 16 → 2 ^ (8 * n) ≤ 2 ^ 128
 fits n few = pow_mono {i = 8 * n} {j = 128} (omega (arith, few))
