@@ -1,7 +1,8 @@
 //! Expressions, by cases on them.
 
 ghost use Rattle.std.specs.Prelude.{◌≡◌, ◌++◌, [], map, OnOk, codes, if◌then◌else◌, ◌&&◌};
-ghost use Rattle.sail_syntax.specs.View.{tree, trees, choice_of, cases_of, step_of, steps_of};
+ghost use Rattle.std.specs.Option.{option_map};
+ghost use Rattle.sail_syntax.specs.View.{tree, trees, choice, choice_of, cases_of, step_of, steps_of};
 ghost use Rattle.sail_text.specs.Expressions as spec;
 
 use crate::heads::{put, put_foreach, put_local, put_message, put_slice, put_widen, put_with};
@@ -9,6 +10,7 @@ use crate::shapes::{is_last, is_open, is_operand, is_unit};
 use lex_core::NoMemory;
 use sail_part_print::{put_bits, put_infix, put_name, put_pattern, put_truth};
 use sail_syntax::{Arm, Expr, Infix, Node, Stmt};
+use sqlite_items::Boxed;
 use std::alloc::Global;
 
 /// Appends an expression, in parentheses where they are needed.
@@ -133,6 +135,30 @@ fn put_steps(alloc: Global, out: &mut Vec<u8>, steps: &[Stmt]) -> Result<(), NoM
     Ok(())
 }
 
+/// Appends an if, with an else or without.
+#[cycle(put)]
+fn put_if(
+    alloc: Global,
+    out: &mut Vec<u8>,
+    test: &Expr,
+    yes: &Expr,
+    no: &Option<Boxed<Expr>>,
+) -> Result<(), NoMemory>
+    ensures { OnOk result (out.new.items ≡ out.old.items ++ spec.form_text (choice (tree test.now) (tree yes.now) (option_map tree no.now))) }
+{
+    put(out, b" if")?;
+    put_expr(alloc, out, test)?;
+    put(out, b" then")?;
+    match no {
+        Some(no) => {
+            put_enclosed(alloc, out, yes, is_open(yes))?;
+            put(out, b" else")?;
+            put_expr(alloc, out, no.get())
+        }
+        None => put_expr(alloc, out, yes),
+    }
+}
+
 /// Appends an expression.
 #[cycle(put)]
 pub fn put_expr(alloc: Global, out: &mut Vec<u8>, e: &Expr) -> Result<(), NoMemory>
@@ -172,20 +198,7 @@ pub fn put_expr(alloc: Global, out: &mut Vec<u8>, e: &Expr) -> Result<(), NoMemo
             put_expr(alloc, out, of.get())?;
             put(out, b" )")
         }
-        Node::If { test, yes, no } => {
-            put(out, b" if")?;
-            put_expr(alloc, out, test.get())?;
-            put(out, b" then")?;
-            match no {
-                Some(no) => {
-                    let yes = yes.get();
-                    put_enclosed(alloc, out, yes, is_open(yes))?;
-                    put(out, b" else")?;
-                    put_expr(alloc, out, no.get())
-                }
-                None => put_expr(alloc, out, yes.get()),
-            }
-        }
+        Node::If { test, yes, no } => put_if(alloc, out, test.get(), yes.get(), no),
         Node::Match { on, arms } => {
             put(out, b" match")?;
             put_expr(alloc, out, on.get())?;

@@ -6,12 +6,15 @@ ghost use Rattle.lex_core.specs.Want.{Gives};
 ghost use Rattle.sail_syntax.specs.Program.{registers_of};
 ghost use Rattle.sail_syntax.specs.View.{program_of};
 ghost use Rattle.type_rules.specs.Program.{type_fault, is_pc, pc_number};
+ghost use Rattle.sail_names.specs.Things.{find_thing, things_of};
 ghost use Rattle.sail_typed.specs.Checked.{checked, is_want, register_at};
 
 use lex_core::{Name, NoMemory, RegDecl};
+use sail_names::{Thing, names_of, thing_of};
 use sail_syntax::{Program, registers};
 use sqlite_items::Items;
 use std::alloc::Global;
+use std::collections::BTreeMap;
 use std::marker::Model;
 use type_programs::type_fault;
 use type_rules::TypeFault;
@@ -22,6 +25,7 @@ pub struct Typed {
     program: Program,
     registers: Items<RegDecl>,
     pc: usize,
+    things: BTreeMap<Vec<u8>, Thing>,
 }
 
 impl Model for Typed {
@@ -36,7 +40,7 @@ impl Model for Typed {
 
     ghost view = { λ t. t.program };
 
-    ghost invariant = { λ t. IsPrepared (program_of t.program) t.registers t.pc };
+    ghost invariant = { λ t. IsPrepared (program_of t.program) t.registers t.pc t.things };
 }
 
 /// The number of the first register PC of 64 bits.
@@ -63,6 +67,10 @@ pub fn check(alloc: Global, program: Program) -> Result<Typed, TypeFault>
         Ok(registers) => registers,
         Err(NoMemory) => return Err(TypeFault::NoMemory),
     };
+    let things = match names_of(alloc, &program) {
+        Ok(things) => things,
+        Err(NoMemory) => return Err(TypeFault::NoMemory),
+    };
     let Some(pc) = pc_number(registers.as_slice()) else {
         return Err(TypeFault::NoPc);
     };
@@ -70,6 +78,7 @@ pub fn check(alloc: Global, program: Program) -> Result<Typed, TypeFault>
         program,
         registers,
         pc,
+        things,
     })
 }
 
@@ -97,6 +106,13 @@ impl Typed {
             .as_slice()
             .iter()
             .position(|register| register.name.is(name.bytes()))
+    }
+
+    /// What a name of the program stands for where it is evaluated; none where the program has no such name.
+    pub fn thing(&self, name: &[u8]) -> Option<Thing>
+        ensures { result ≡ find_thing name.now (things_of (program_of self.now)) }
+    {
+        thing_of(&self.things, name)
     }
 
     /// The number of the register PC, which has 64 bits.

@@ -2,7 +2,7 @@
 
 ghost use Rattle.std.specs.Prelude.{◌≡◌, ◌≤◌, ◌^◌, nat_lt, true};
 ghost use Rattle.bv_bits.specs.Bits.{IsBits};
-ghost use Rattle.sail_values.specs.Values.{is_vector, operate, operate_one, flipped, widened, is_true, same, applied, decides};
+ghost use Rattle.sail_values.specs.Values.{is_vector, nth, operate, operate_one, flipped, widened, is_true, same, applied, decides};
 
 use crate::value::Value;
 use bv_bits::{Bits, Op, apply};
@@ -55,6 +55,16 @@ pub fn operate(op: Op, a: Value, b: Value) -> Value
             }
         }
         _ => Value::Unit,
+    }
+}
+
+/// The value of a number, from 0; unit where there is none.
+pub fn nth(at: usize, values: &[Value]) -> Value
+    ensures { result ≡ nth at values.now }
+{
+    match values.get(at) {
+        Some(value) => *value,
+        None => Value::Unit,
     }
 }
 

@@ -15,7 +15,7 @@ pub enum Value {
     /// A bit vector.
     Bits(Bits),
     /// A member of an enum: the number of the enum among the text's enums and of the member in it, from 0.
-    Member { of: u32, index: u32 },
+    Member { of: usize, index: usize },
 }
 
 /// What a local name stands for.

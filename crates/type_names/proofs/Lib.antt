@@ -1,2 +1,2 @@
-mod NewestLemmas
-mod PlaceLemmas
+pub mod NewestLemmas
+pub mod PlaceLemmas

@@ -11,4 +11,5 @@ mod told;
 pub use borrowed::{FaultRef, LocalRef, SortRef, TyRef, WhyRef};
 pub use globals::Globals;
 pub use locals::Locals;
+pub use newest::{newest_of, reset_newest, set_newest};
 pub use told::say;

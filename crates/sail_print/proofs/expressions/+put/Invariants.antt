@@ -1,6 +1,7 @@
 use Rattle.std.proofs.Common.{◌≡◌, ◌+◌, ◌*◌, ◌++◌, map, drop}
 use Rattle.sail_syntax.specs.View.{tree, trees, choice_of, cases_of, step_of, steps_of}
 use Rattle.sail_text.specs.Expressions.{more_chain_text, more_arguments_text, more_arms_text, more_steps_text}
+use Rattle.sail_print.proofs.Depths.{choice_depth}
 use Rattle.sail_print.proofs.expressions.+put.Given as goal
 
 -- what is written, and the text of what is left, are the whole
@@ -25,6 +26,9 @@ decreases-put_expr l = 4 * goal.size-put_expr l
 
 abbrev pub decreases-put_enclosed : goal.decreases-put_enclosed
 decreases-put_enclosed l = 4 * goal.size-put_enclosed l + 1
+
+abbrev pub decreases-put_if : goal.decreases-put_if
+decreases-put_if l = 4 * choice_depth l.test.now l.yes.now l.no.now + 2
 
 abbrev pub decreases-put_chain : goal.decreases-put_chain
 decreases-put_chain l = 4 * goal.size-put_chain l + 2

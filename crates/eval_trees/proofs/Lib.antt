@@ -1,0 +1,3 @@
+mod Weight
+mod Turns
+mod CallLemmas

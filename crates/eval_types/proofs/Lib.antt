@@ -1,0 +1,11 @@
+pub mod ValueLemmas
+pub mod FlowLemmas
+pub mod LocalLemmas
+pub mod GivenLemmas
+pub mod ThingLemmas
+pub mod PatternLemmas
+pub mod NameLemmas
+pub mod StepLemmas
+pub mod KeepLemmas
+pub mod ProgramLemmas
+pub mod CallLemmas

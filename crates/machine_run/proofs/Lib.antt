@@ -1,0 +1,4 @@
+mod Pc
+mod Runs
+mod Steps
+mod Widths
