@@ -1,0 +1,12 @@
+pub mod Calm
+pub mod Covered
+pub mod Declared
+pub mod Endings
+pub mod Entries
+pub mod Parts
+pub mod Safety
+pub mod Seen
+pub mod SeenParts
+pub mod SeenTrees
+pub mod Touches
+pub mod Words

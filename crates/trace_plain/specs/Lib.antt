@@ -1,0 +1,6 @@
+pub mod Following
+pub mod Laws
+pub mod Printable
+pub mod Rules
+pub mod Trace
+pub mod View
