@@ -1,6 +1,2 @@
-pub mod CountLemmas
-pub mod EndLemmas
-pub mod IfLemmas
 pub mod ReadingLemmas
 pub mod RunLemmas
-pub mod Tops

@@ -13,13 +13,13 @@ use Rattle.sail_grammar.specs.Words.{Words, word_of, words_of}
 use Rattle.sail_grammar.specs.declared.word.Word.{Word}
 use Rattle.sail_machine.specs.Machine.{step}
 use Rattle.sail_machine.specs.Run.{Outcome, and_then, ended, given, last, run}
-use Rattle.sail_reader.specs.declared.fault.Stop.{Stop}
-use Rattle.sail_reader.specs.declared.fault.Stop.TheVariants as stop
-use Rattle.sail_reader.specs.declared.frame.Frame.{Frame}
-use Rattle.sail_reader.specs.declared.mode.Mode.{Mode}
+use Rattle.sail_frames.specs.declared.stop.Stop.{Stop}
+use Rattle.sail_frames.specs.declared.stop.Stop.TheVariants as stop
+use Rattle.sail_frames.specs.declared.frame.Frame.{Frame}
+use Rattle.sail_frames.specs.declared.mode.Mode.{Mode}
 use Rattle.sail_reader.specs.Reading.{is_stop, stopped}
-use Rattle.sail_reader.specs.Turning.{Turns}
-use Rattle.sail_reader.specs.View.{frames_of, mode_of}
+use Rattle.sail_frames.specs.Turning.{Turns}
+use Rattle.sail_frames.specs.View.{frames_of, mode_of}
 
 next_word : (z : Text) (ts : List Token) (i : ℕ) (d : Token) → i < length ts → words_of z (drop i ts) ≡ word_of (get_or ts i d).kind (bytes_of z (get_or ts i d)) (get_or ts i d).from ∷ words_of z (drop (i + 1) ts)
 next_word z [] i d h = absurd (omega (arith, h))

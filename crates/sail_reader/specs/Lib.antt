@@ -1,4 +1,1 @@
-pub mod Counts
-pub mod View
-pub mod Turning
 pub mod Reading

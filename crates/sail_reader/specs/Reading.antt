@@ -12,8 +12,8 @@ use Rattle.sail_machine.specs.declared.fault.Flaw.TheVariants as flaw
 use Rattle.sail_machine.specs.Run.{Outcome, read}
 use Rattle.sail_reader.specs.declared.fault.SailFault.{SailFault}
 use Rattle.sail_reader.specs.declared.fault.SailFault.TheVariants as fault
-use Rattle.sail_reader.specs.declared.fault.Stop.{Stop}
-use Rattle.sail_reader.specs.declared.fault.Stop.TheVariants as stop
+use Rattle.sail_frames.specs.declared.stop.Stop.{Stop}
+use Rattle.sail_frames.specs.declared.stop.Stop.TheVariants as stop
 
 -- a fault of the machine, as the text's
 abbrev pub told_by : Flaw → ℕ → SailFault

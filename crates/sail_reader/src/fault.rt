@@ -3,9 +3,9 @@
 ghost use Rattle.std.specs.Prelude.{◌≡◌};
 ghost use Rattle.sail_reader.specs.Reading.{told_stop};
 
-use lex_core::{LexFault, NoMemory};
+use lex_core::LexFault;
+use sail_frames::Stop;
 use sail_machine::{Fault, Flaw};
-use std::alloc::AllocError;
 
 /// Why a Sail text can't be read. A place is in bytes of the text.
 #[derive(Clone, Copy, Debug, PartialEq, Eq)]
@@ -26,43 +26,12 @@ pub enum SailFault {
     NoMemory,
 }
 
-/// Why the machine stops.
-#[derive(Clone, Copy, Debug, PartialEq, Eq)]
-pub enum Stop {
-    /// The words are no program.
-    Fault(Fault),
-    /// Want of memory.
-    NoMemory,
-}
-
-impl From<NoMemory> for Stop {
-    ghost use Rattle.std.specs.Prelude.{◌≡◌};
-    ghost use Rattle.sail_reader.specs.declared.fault.Stop.TheVariants as stop;
-
-    ghost from_gives = { λ _ e. e ≡ stop.NoMemory };
-
-    fn from(_error: NoMemory) -> Stop {
-        Stop::NoMemory
-    }
-}
-
-impl From<AllocError> for Stop {
-    ghost use Rattle.std.specs.Prelude.{◌≡◌};
-    ghost use Rattle.sail_reader.specs.declared.fault.Stop.TheVariants as stop;
-
-    ghost from_gives = { λ _ e. e ≡ stop.NoMemory };
-
-    fn from(_error: AllocError) -> Stop {
-        Stop::NoMemory
-    }
-}
-
-impl Stop {
-    /// The fault of the text.
-    pub fn told(self) -> SailFault
-        ensures { result ≡ told_stop self }
+impl SailFault {
+    /// Why the text is no program, where the machine stops.
+    pub fn of(stop: Stop) -> SailFault
+        ensures { result ≡ told_stop stop }
     {
-        match self {
+        match stop {
             Stop::NoMemory => SailFault::NoMemory,
             Stop::Fault(Fault { flaw, at }) => match flaw {
                 Flaw::Unexpected => SailFault::Unexpected { at },

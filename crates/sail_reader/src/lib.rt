@@ -4,24 +4,10 @@
 //! says what is open, a mode what comes next. No function calls itself, so depth costs no host stack.
 #![tactic(auto)]
 
-mod atoms;
-mod chains;
-mod definitions;
-mod ends;
 mod fault;
-mod fixed;
-mod frame;
-mod headers;
 pub mod laws;
-mod making;
-mod mode;
-mod next;
-mod patterns;
-mod pops;
 mod reader;
-mod stack;
 mod step;
-mod turn;
 
 pub use fault::SailFault;
 pub use reader::read;

@@ -6,19 +6,18 @@ ghost use Rattle.lex_core.specs.Want.{Gives};
 ghost use Rattle.sail_grammar.specs.Words.{words_of};
 ghost use Rattle.sail_machine.specs.Run as run;
 ghost use Rattle.sail_reader.specs.Reading.{is_stop, is_want, read_text, stopped};
-ghost use Rattle.sail_reader.specs.View.{frames_of};
+ghost use Rattle.sail_frames.specs.View.{frames_of};
 ghost use Rattle.sail_syntax.specs.View.{definition_of, program_of};
 
-use crate::definitions::Definitions;
-use crate::fault::{SailFault, Stop};
-use crate::frame::Frame;
-use crate::mode::Mode;
-use crate::stack::Stack;
+use crate::fault::SailFault;
 use crate::step::{last, step};
 use lex_core::{LexFault, Token, tokens};
+use sail_counts::Definitions;
+use sail_frames::{Frame, Mode, Stack, Stop};
 use sail_grammar::Word;
 use sail_machine::{Await, Fault, Flaw};
 use sail_syntax::{Def, Program};
+use sail_tops::pop_program;
 use sqlite_items::Items;
 use std::alloc::Global;
 
@@ -29,7 +28,7 @@ const MOST_BYTES: usize = 1_048_576;
 fn given(alloc: Global, stack: &mut Stack, at: usize) -> Result<Items<Def>, Stop>
     ensures { Gives is_stop (map definition_of) (stopped (run.given (frames_of stack.old) at)) result }
 {
-    match stack.pop_program(alloc) {
+    match pop_program(alloc, stack) {
         Some(defs) => Ok(defs.into_items()),
         None => Err(Stop::Fault(Fault {
             flaw: Flaw::Unexpected,
@@ -71,6 +70,6 @@ pub fn read(alloc: Global, text: &[u8]) -> Result<Program, SailFault>
     };
     match run(alloc, text, tokens.as_slice()) {
         Ok(defs) => Ok(Program { defs }),
-        Err(stop) => Err(stop.told()),
+        Err(stop) => Err(SailFault::of(stop)),
     }
 }

@@ -3,28 +3,25 @@
 ghost use Rattle.std.specs.Prelude.{◌≡◌};
 ghost use Rattle.sail_machine.specs.Machine as spec;
 ghost use Rattle.sail_machine.specs.Run as run;
-ghost use Rattle.sail_reader.specs.Turning.{Turns};
-ghost use Rattle.sail_reader.specs.View.{frames_of, mode_of};
+ghost use Rattle.sail_frames.specs.Turning.{Turns};
+ghost use Rattle.sail_frames.specs.View.{frames_of, mode_of};
 
-use crate::atoms::{inside, named, operand_word, statement, want};
-use crate::chains::after;
-use crate::ends::ends;
-use crate::fault::Stop;
-use crate::fixed::{binds_local, fixed_word};
-use crate::headers::{
+use lex_core::Name;
+use sail_atoms::{
+    arm_or_end, inside, more_parts, named, operand_word, part_named, part_word, statement, want,
+};
+use sail_ends::{after, ends};
+use sail_fixed::{binds_local, fixed_word};
+use sail_frames::{
+    Mode, Next, Stack, Stop, definition, is_keyword, is_mark, is_operator, unexpected,
+};
+use sail_grammar::{Keyword, Mark, Sign, Word};
+use sail_heads::{
     index_word, member_or_end, more_members, more_params, more_types, name_word, number_word,
     param_or_end, type_or_end, type_word,
 };
-use crate::making::variable;
-use crate::mode::Mode;
-use crate::next::{Next, is_keyword, is_mark, is_operator};
-use crate::patterns::{arm_or_end, more_parts, part_named, part_word};
-use crate::pops::{no_expr, no_name};
-use crate::stack::Stack;
-use crate::turn::{definition, unexpected};
-use lex_core::Name;
-use sail_grammar::{Keyword, Mark, Sign, Word};
 use sail_machine::{Await, Binder, Counting, Fixed, IndexUse, TypeUse};
+use sail_nodes::{no_expr, no_name, variable};
 use sail_syntax::{Index, Infix};
 use std::alloc::Global;
 use std::mem::replace;

@@ -1,5 +1,5 @@
 -- Traces that have a text, and the registers that they may name.
-use Rattle.std.specs.Prelude.{◌≡◌, ◌≢◌, ◌≤◌, ◌<◌, ⊤, ℕ, true, List, All, AllPairs}
+use Rattle.std.specs.Prelude.{◌≡◌, ◌≢◌, ◌≤◌, ◌<◌, ⊤, ℕ, true, List, [], ◌∷◌, All, AllPairs}
 use Rattle.lex_core.specs.declared.name.RegDecl.{RegDecl}
 use Rattle.lex_core.specs.declared.token.Kind.TheVariants as kind
 use Rattle.lex_core.specs.Forms.{has_form}
@@ -29,10 +29,15 @@ IsPrintableEvent registers (assume t) = HasText t
 IsPrintableEvent registers (need t) = HasText t
 IsPrintableEvent registers (assume_reg r value) = r < registers
 
+-- events that are such
+abbrev pub ArePrintableEvents : ℕ → List Event → Type 0
+ArePrintableEvents registers [] = ⊤
+ArePrintableEvents registers (e ∷ es) = IsPrintableEvent registers e × ArePrintableEvents registers es
+
 -- a trace, an end and traces in a row whose events are such
 abbrev mutual
   pub IsPrintable : ℕ → Trace → Type 0
-  IsPrintable registers (trace events end) = All (IsPrintableEvent registers) events × IsPrintableEnd registers end
+  IsPrintable registers (trace events end) = ArePrintableEvents registers events × IsPrintableEnd registers end
 
   pub IsPrintableEnd : ℕ → End → Type 0
   IsPrintableEnd registers done = ⊤

@@ -1,7 +1,7 @@
 use Rattle.std.proofs.Common.{◌≡◌, length, drop}
 use Rattle.sail_grammar.specs.Words.{words_of}
 use Rattle.sail_machine.specs.Run as run
-use Rattle.sail_reader.specs.View.{frames_of, mode_of}
+use Rattle.sail_frames.specs.View.{frames_of, mode_of}
 use Rattle.sail_reader.proofs.reader.run.Given as goal
 
 -- the words so far, and then those of the tokens that are left
