@@ -1,0 +1,4 @@
+pub mod Conditions
+pub mod Entry
+pub mod RegisterPlaces
+pub mod Walk
