@@ -1,7 +1,6 @@
 -- The registers of the entry's state: the PC is there and has 64 bits, and values of placed registers fit.
 use Rattle.std.proofs.Common.{◌≡◌, ℕ, zero, suc, ◌<◌, List, [], ◌∷◌, length, map, get_or, nat_eq, sym, ap, ◌∙◌, subst, arith, All, Some, refl}
 use Rattle.std.specs.Prelude.{bytes_eq, codes, slice_set, slice_get, slice_index_or}
-use Rattle.std.specs.List.{position}
 use Rattle.std.proofs.lemmas.Bool.{and_parts, eqb-true}
 use Rattle.std.proofs.lemmas.List.{length-map, get_or-map}
 use Rattle.std.proofs.lemmas.List.Elements.{All-weaker}

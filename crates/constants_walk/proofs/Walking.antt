@@ -1,13 +1,12 @@
 -- A walk, by where the PC is and what the step is.
 use Rattle.std.proofs.Common.{◌≡◌, ℕ, zero, suc, ◌+◌, [], refl, sym, ap, ◌∙◌, arith, Bool, true, false}
 use Rattle.std.specs.Prelude.{if◌then◌else◌, nat_le}
-use Rattle.state_core.specs.World.{World, Halt}
+use Rattle.state_core.specs.World.{World}
 use Rattle.eval_words.specs.Instr.{Ended, whole, cut}
 use Rattle.machine_run.specs.Words.{is_long}
 use Rattle.machine_run.specs.Machine.{Machine, pc_of, step}
-use Rattle.machine_safe.specs.First.{Constants, end_of, is_inside, byte_of, size_by, size_at, has_touched, Walked, left, outside, touches, fails, too_many, at_pc, next_of, walk_from}
+use Rattle.machine_safe.specs.First.{Constants, end_of, is_inside, byte_of, size_by, size_at, has_touched, Walked, left, outside, too_many, at_pc, next_of, walk_from}
 use Rattle.constants_walk.specs.declared.walk.Walk.TheVariants as walk
-use Rattle.constants_walk.specs.declared.walk.Stepped.{Stepped}
 use Rattle.constants_walk.specs.declared.walk.Stepped.TheVariants as stepped
 use Rattle.constants_walk.specs.Walk.{IsStepped, IsWalked}
 
@@ -42,9 +41,6 @@ module _ (m : Machine) (c : Constants) where
   goes_out k last (suc room) pc w at =
       by_tests k last pc w (next_of (has_touched w (step m [] w).1) (step m [] w).0 (pc_of m w.state) (step m [] w).1 (walk_from m c (suc k) (pc_of m w.state) room (step m [] w).1)) true false at
 
-  is_full : (k last pc : ℕ) (w : World) → IsAt m c pc w true true → walk_from m c k last zero w ≡ (too_many pc, w)
-  is_full k last pc w at = by_tests k last pc w (too_many (pc_of m w.state), w) true true at ∙ ap (λ a. (too_many a, w)) at.pc_is
-
   steps : (k last room pc : ℕ) (w x : World) (e : Ended) (t : Bool) → IsAt m c pc w true true → step m [] w ≡ (e, x) → has_touched w x ≡ t
       → walk_from m c k last (suc room) w ≡ next_of t e pc x (walk_from m c (suc k) pc room x)
   steps k last room pc w x e t at is touched =
@@ -59,9 +55,6 @@ module _ (m : Machine) (c : Constants) where
 
     pub ends_outside : (k last room pc : ℕ) (w : World) → all ≡ walk_from m c k last room w → IsAt m c pc w true false → IsWalked (walk.Outside pc) w all
     ends_outside k last room pc w rest at = rest ∙ goes_out k last room pc w at
-
-    pub ends_full : (k last room pc : ℕ) (w : World) → all ≡ walk_from m c k last room w → room ≡ 0 → IsAt m c pc w true true → IsWalked (walk.TooMany pc) w all
-    ends_full k last room pc w rest none at = rest ∙ ap (λ n. walk_from m c k last n w) none ∙ is_full k last pc w at
 
     -- the step from here
     one_step : (k last room less pc : ℕ) (w x : World) (e : Ended) (t : Bool) → all ≡ walk_from m c k last room w → room ≡ suc less → IsAt m c pc w true true

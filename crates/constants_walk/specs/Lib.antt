@@ -1,4 +1,5 @@
 pub mod Conditions
 pub mod Entry
 pub mod RegisterPlaces
+pub mod RunForm
 pub mod Walk

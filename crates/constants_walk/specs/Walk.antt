@@ -1,5 +1,5 @@
 -- What the code of the walk answers.
-use Rattle.std.specs.Prelude.{◌≡◌, Bool, true, false}
+use Rattle.std.specs.Prelude.{◌≡◌, true, false}
 use Rattle.state_core.specs.World.{World, Halt}
 use Rattle.eval_words.specs.Instr.{Ended, whole, cut}
 use Rattle.machine_safe.specs.First.{has_touched, Walked, left, outside, touches, fails, too_many}
