@@ -1,34 +1,34 @@
 -- The constants of a proof, as the code comes to them.
 use Rattle.std.proofs.Common.{◌≡◌, ℕ, List, length, map, sym, ap, ◌∙◌, subst, Some, None}
-use Rattle.std.specs.Prelude.{unwrap_or, Result, IfOk, IfSome}
+use Rattle.std.specs.Prelude.{unwrap_or, Result, Ok, Err, IfOk, IfSome}
 use Rattle.std.specs.Option.{option_map}
 use Rattle.std.specs.declared.option.Option.{Option}
 use Rattle.lex_core.specs.declared.memory.NoMemory.{NoMemory}
 use Rattle.lex_core.specs.declared.name.RegDecl.{RegDecl}
 use Rattle.sail_syntax.specs.Program.{Definition, registers_of}
-use Rattle.sail_types.specs.Typing.{pc_number, widths_in}
-use Rattle.machine_core.specs.First.{Constants}
+use Rattle.type_rules.specs.Program.{pc_number}
+use Rattle.machine_run.specs.Program.{machine_of, width_in, widths_in}
+use Rattle.machine_safe.specs.First.{Constants}
 use Rattle.report_text.specs.declared.outcome.Outcome.{Outcome}
 use Rattle.report_text.specs.Outcome.{Said, said_of}
 use Rattle.proof_form.specs.declared.form.NamedProof.{NamedProof}
 use Rattle.proof_form.specs.declared.form.NamedValue.{NamedValue}
-use Rattle.constants_run.specs.declared.register_places.PlacedValue.{PlacedValue}
-use Rattle.constants_run.specs.declared.conditions.ConstantsData.{ConstantsData}
+use Rattle.constants_walk.specs.declared.register_places.PlacedValue.{PlacedValue}
+use Rattle.constants_walk.specs.declared.conditions.ConstantsData.{ConstantsData}
 use Rattle.read_rules.specs.Binding.{◌>>=◌}
 use Rattle.proof_form.specs.ProofForm.{AreBits}
-use Rattle.constants_run.specs.RegisterPlaces.{places, pair_of, ArePlaced}
-use Rattle.constants_run.specs.Conditions.{code_in, constants, constants_of}
+use Rattle.constants_walk.specs.RegisterPlaces.{places, pair_of, ArePlaced}
+use Rattle.constants_walk.specs.Conditions.{code_in, constants, constants_of}
 use Rattle.state_core.specs.State.{Memory}
 use Rattle.constants_check.specs.Verdict.{constants_for}
-use Rattle.sail_types.specs.Typing.{width_in}
-use Rattle.machine_core.specs.Program.{machine_of}
 
-pub pc_same : (defs : List Definition) (r : ℕ) → Some r ≡ pc_number defs → r ≡ (machine_of defs).pc
-pc_same defs r is = ap (λ o. unwrap_or o 0) is
+pub pc_same : (defs : List Definition) (r : ℕ) → pc_number defs ≡ Some r → r ≡ (machine_of defs).pc
+pc_same defs r is = ap (λ o. unwrap_or o 0) (sym is)
 
--- what is said by another name
-pub said_as : (r : Result Outcome NoMemory) (v w : Said) → w ≡ v → IfOk r (λ a. said_of a ≡ v) → IfOk r (λ a. said_of a ≡ w)
-said_as r v w is h = subst (λ x. IfOk r (λ a. said_of a ≡ x)) (sym is) h
+-- what is said is what the definition gives
+pub said_as : (r : Result Outcome NoMemory) (v : Said) (o : Option Said) → o ≡ Some v → IfOk r (λ a. said_of a ≡ v) → IfOk r (λ a. o ≡ Some (said_of a))
+said_as (Ok a) v o is h = is ∙ ap (λ (said : Said). Some said) (sym h)
+said_as (Err e) v o is h = h
 
 module _ (defs : List Definition) (p : NamedProof) (memory : Memory) (rs : List RegDecl) (pc : ℕ) (known : rs ≡ registers_of defs) (counter : pc ≡ (machine_of defs).pc) where
   -- with the registers' values, and with the constants

@@ -1,5 +1,5 @@
 -- What a check says of three texts: the one answer that they have.
-use Rattle.std.specs.Prelude.{ℕ, ◌++◌, List, [], ◌∷◌, codes, length, Option, Some, None, Result, Ok, Err, if◌then◌else◌}
+use Rattle.std.specs.Prelude.{ℕ, ◌++◌, List, [], ◌∷◌, codes, length, Option, Some, None, Result, Ok, Err}
 use Rattle.std.specs.Option.{option_map}
 use Rattle.std.specs.Fmt.{decimal}
 use Rattle.std.specs.List.{concat}
@@ -8,35 +8,32 @@ use Rattle.elf_image.specs.declared.fault.ImageFault.{ImageFault}
 use Rattle.elf_image.specs.declared.fault.ImageFault.TheVariants as fault
 use Rattle.elf_image.specs.Image.{Image, image_of}
 use Rattle.sail_syntax.specs.Program.{Definition, registers_of}
-use Rattle.sail_types.specs.Typing.{has_instr}
-use Rattle.machine_core.specs.Program.{machine_of}
-use Rattle.machine_core.specs.First.{Constants}
+use Rattle.machine_run.specs.Program.{machine_of}
+use Rattle.machine_safe.specs.First.{Constants}
 use Rattle.constants_text.specs.Texts.{address_text, report_text, on_file_text, on_run_text}
 use Rattle.lex_core.specs.Classes.{Text}
 use Rattle.report_text.specs.Names.{Row}
 use Rattle.report_text.specs.Outcome.{Said, accept, refuse, bad_input, beyond}
-use Rattle.report_text.specs.declared.numbers.TheConstants.{NO_FUNCTION, TRUNCATED, CLASS, ORDER, KIND, OVERLAP, RANGE, TOO_LARGE, NO_PROOF, WRONG_END, TOO_MANY, FAILS, OUTSIDE, NOT_YET}
+use Rattle.report_text.specs.declared.numbers.TheConstants.{TRUNCATED, CLASS, ORDER, KIND, OVERLAP, RANGE, TOO_LARGE, NO_PROOF, TOUCHES, WRONG_END, TOO_MANY, FAILS, OUTSIDE, NOT_YET}
 use Rattle.proof_form.specs.declared.form.NamedProof.{NamedProof}
 use Rattle.proof_form.specs.declared.form.ReadProof.{ReadProof}
 use Rattle.proof_form.specs.declared.form.ReadProof.TheVariants as read
-use Rattle.constants_run.specs.declared.run_form.RunEnd.{RunEnd}
-use Rattle.constants_run.specs.declared.run_form.RunEnd.TheVariants as run_end
-use Rattle.sail_rules.specs.SailForm.{sail_form}
+use Rattle.constants_walk.specs.declared.failure.Failure.{Failure}
+use Rattle.constants_walk.specs.declared.failure.Failure.TheVariants as failure
+use Rattle.constants_walk.specs.declared.run_form.RunEnd.{RunEnd}
+use Rattle.constants_walk.specs.declared.run_form.RunEnd.TheVariants as run_end
+use Rattle.sail_verdict.specs.Verdict.{sail_verdict}
 use Rattle.read_rules.specs.Binding.{◌>>=◌}
 use Rattle.proof_form.specs.ProofForm.{proof_form}
-use Rattle.constants_run.specs.RegisterPlaces.{places}
-use Rattle.constants_run.specs.Conditions.{code_in, constants, constants_of}
-use Rattle.constants_run.specs.RunForm.{run_end_of}
+use Rattle.constants_walk.specs.RegisterPlaces.{places}
+use Rattle.constants_walk.specs.Conditions.{code_in, constants, constants_of}
+use Rattle.constants_walk.specs.RunForm.{run_end_of}
 
 -- ---- what is said of inputs
 
 -- the input has a form that isn't read yet
 abbrev pub not_yet : Text → Said
 not_yet name = bad_input (on_file_text (codes "input") NOT_YET name (codes "0"))
-
--- the Sail text has no function `instr`
-abbrev pub no_function : Text → Said
-no_function name = bad_input (on_file_text (codes "input") NO_FUNCTION name [])
 
 -- the file is no image, by this number and with these fields
 abbrev pub bad_image : Text → ℕ → Text → Said
@@ -71,12 +68,19 @@ report_of p count = report_text (record {
   blocks = record { name = p.block; address = p.entry_at; instructions = count; certificates = 0 } ∷ [];
 } ∷ [])
 
+-- the word for a failure
+abbrev pub failure_text : Failure → Text
+failure_text failure.Match = codes "match"
+failure_text failure.Assert = codes "assert"
+failure_text failure.Exit = codes "exit"
+
 -- what is said of the end of a run
 abbrev pub on_end : NamedProof → RunEnd → Said
 on_end p (run_end.Accepted count) = accept (report_of p count)
 on_end p (run_end.Wrong at) = refuse (on_run_text (codes "refused") WRONG_END p.spec p.block (Some at) (codes "condition 0 goal 0b0 why false"))
 on_end p (run_end.Outside pc) = refuse (on_run_text (codes "refused") OUTSIDE p.spec p.block (Some pc) (codes "pc " ++ address_text pc))
-on_end p (run_end.Fails pc) = refuse (on_run_text (codes "refused") FAILS p.spec p.block (Some pc) (codes "fail match"))
+on_end p (run_end.Touches pc) = refuse (on_run_text (codes "refused") TOUCHES p.spec p.block (Some pc) (codes "nouse"))
+on_end p (run_end.Fails why pc) = refuse (on_run_text (codes "refused") FAILS p.spec p.block (Some pc) (codes "fail " ++ failure_text why))
 on_end p (run_end.TooMany pc) = beyond (on_run_text (codes "limit") TOO_MANY p.spec p.block (Some pc) [])
 
 -- ---- the check
@@ -90,26 +94,26 @@ constants_for defs p memory =
     option_map (constants_of c) (code_in memory c.lo c.hi)
 
 -- with the constants, or without
-abbrev pub on_constants : Row → List Definition → NamedProof → Option Constants → Said
-on_constants row defs p None = not_yet row.proof
-on_constants row defs p (Some c) = on_end p (run_end_of (machine_of defs) c)
+abbrev pub on_constants : Row → List Definition → NamedProof → Option Constants → Option Said
+on_constants row defs p None = Some (not_yet row.proof)
+on_constants row defs p (Some c) = option_map (on_end p) (run_end_of (machine_of defs) c)
 
 -- with what the proof file is
-abbrev pub on_proof : Row → List Definition → Memory → ReadProof → Said
-on_proof row defs memory (read.NoProof at) = no_proof row.proof at
-on_proof row defs memory read.Outside = not_yet row.proof
+abbrev pub on_proof : Row → List Definition → Memory → ReadProof → Option Said
+on_proof row defs memory (read.NoProof at) = Some (no_proof row.proof at)
+on_proof row defs memory read.Outside = Some (not_yet row.proof)
 on_proof row defs memory (read.Read p) = on_constants row defs p (constants_for defs p memory)
 
--- with a program that has the function, and what the image is
-abbrev pub on_image : Row → List Definition → Text → Result Image ImageFault → Said
-on_image row defs proof (Err f) = no_image row.image f
+-- with a program that types, and what the image is
+abbrev pub on_image : Row → List Definition → Text → Result Image ImageFault → Option Said
+on_image row defs proof (Err f) = Some (no_image row.image f)
 on_image row defs proof (Ok i) = on_proof row defs i.memory (proof_form proof)
 
--- with the program, where the Sail text is of its form
-abbrev pub on_program : Row → Text → Text → Option (List Definition) → Said
-on_program row image proof None = not_yet row.sail
-on_program row image proof (Some defs) = if has_instr defs then on_image row defs proof (image_of image) else no_function row.sail
+-- with the program of a Sail text that types, or what is said of the text's first fault
+abbrev pub on_sail : Row → Text → Text → Result (List Definition) (Option Said) → Option Said
+on_sail row image proof (Ok defs) = on_image row defs proof (image_of image)
+on_sail row image proof (Err said) = said
 
--- what is said of the three texts in files of these names
-unfoldable pub verdict : Row → Text → Text → Text → Said
-verdict row sail image proof = on_program row image proof (sail_form sail)
+-- what is said of the three texts in files of these names; nothing only of want of memory, which no texts have
+unfoldable pub verdict : Row → Text → Text → Text → Option Said
+verdict row sail image proof = on_sail row image proof (sail_verdict row.sail sail)

@@ -1,13 +1,10 @@
 //! What is said of three texts.
 
-ghost use Rattle.std.specs.Prelude.{◌≡◌, ◌≢◌, ◌<◌, ◌^◌, length, IfOk, Some, codes};
+ghost use Rattle.std.specs.Prelude.{◌≡◌, ◌≢◌, IfOk, Some, codes};
 ghost use Rattle.std.specs.Fmt.{decimal};
 ghost use Rattle.elf_image.specs.Image.{image_of};
 ghost use Rattle.elf_image.specs.declared.fault.ImageFault.TheVariants as fault_is;
 ghost use Rattle.sail_syntax.specs.View.{program_of};
-ghost use Rattle.sail_types.specs.Typing.{HasWidths, IsCountable};
-ghost use Rattle.sail_eval.specs.Quiet.{IsQuietProgram};
-ghost use Rattle.sail_form.specs.SailFormHolds.{FunctionFits};
 ghost use Rattle.proof_form.specs.ProofForm.{proof_form, AreBits};
 ghost use Rattle.constants_check.specs.Verdict as spec;
 ghost use Rattle.constants_check.specs.Verdict.{verdict};
@@ -15,19 +12,18 @@ ghost use Rattle.report_text.specs.Outcome.{accept, refuse, said_of};
 ghost use Rattle.report_text.specs.Names.{row_named};
 ghost use Rattle.constants_text.specs.Texts.{on_run_text};
 
-use constants_run::{RunEnd, code_of, constants, place_registers, run_constants};
 use constants_text::{Block, Exit, SpecReport, address, decimal, join, on_file, on_run, report};
+use constants_walk::{Failure, RunEnd, code_of, constants, place_registers, run_constants};
 use elf_image::{Image, ImageFault, load};
 use lex_core::NoMemory;
 use proof_form::{NamedProof, ReadProof, read_proof};
 use report_text::numbers::{
-    CLASS, FAILS, KIND, NO_FUNCTION, NO_PROOF, NOT_YET, ORDER, OUTSIDE, OVERLAP, RANGE, TOO_LARGE,
-    TOO_MANY, TRUNCATED, WRONG_END,
+    CLASS, FAILS, KIND, NO_PROOF, NOT_YET, ORDER, OUTSIDE, OVERLAP, RANGE, TOO_LARGE, TOO_MANY,
+    TOUCHES, TRUNCATED, WRONG_END,
 };
 use report_text::{Names, Outcome, Status};
-use sail_form::read_sail;
-use sail_syntax::Program;
-use sail_types::{TypeFault, Typed, check};
+use sail_typed::Typed;
+use sail_verdict::{Judged, judge_sail};
 use sqlite_items::Items;
 use std::alloc::Global;
 
@@ -36,17 +32,6 @@ fn not_yet(alloc: Global, name: &str) -> Result<Outcome, NoMemory>
     ensures { IfOk result (λ a. said_of a ≡ spec.not_yet name.now) }
 {
     let text = on_file(alloc, b"input", NOT_YET, name.as_bytes(), b"0")?;
-    Ok(Outcome {
-        status: Status::Input,
-        text,
-    })
-}
-
-/// The Sail text has no function `instr`.
-fn no_function(alloc: Global, name: &str) -> Result<Outcome, NoMemory>
-    ensures { IfOk result (λ a. said_of a ≡ spec.no_function name.now) }
-{
-    let text = on_file(alloc, b"input", NO_FUNCTION, name.as_bytes(), b"")?;
     Ok(Outcome {
         status: Status::Input,
         text,
@@ -190,6 +175,25 @@ fn too_many(alloc: Global, proof: &NamedProof, pc: u64) -> Result<Outcome, NoMem
     })
 }
 
+/// The word for a failure.
+fn failure_text(why: Failure) -> &'static [u8]
+    ensures { result.now ≡ spec.failure_text why }
+{
+    match why {
+        Failure::Match => b"match",
+        Failure::Assert => b"assert",
+        Failure::Exit => b"exit",
+    }
+}
+
+/// An instruction that fails.
+fn fails(alloc: Global, proof: &NamedProof, why: Failure, pc: u64) -> Result<Outcome, NoMemory>
+    ensures { IfOk result (λ a. said_of a ≡ spec.on_end proof.now (RunEnd.Fails why pc)) }
+{
+    let more = join(alloc, &[b"fail ", failure_text(why)])?;
+    refused(alloc, proof, FAILS, pc, &more)
+}
+
 /// What is said of the end of a run.
 fn on_end(alloc: Global, proof: &NamedProof, end: RunEnd) -> Result<Outcome, NoMemory>
     ensures { IfOk result (λ a. said_of a ≡ spec.on_end proof.now end) }
@@ -201,12 +205,13 @@ fn on_end(alloc: Global, proof: &NamedProof, end: RunEnd) -> Result<Outcome, NoM
             refused(alloc, proof, WRONG_END, at, more)
         }
         RunEnd::Outside { pc } => outside(alloc, proof, pc),
-        RunEnd::Fails { pc } => refused(alloc, proof, FAILS, pc, b"fail match"),
+        RunEnd::Touches { pc } => refused(alloc, proof, TOUCHES, pc, b"nouse"),
+        RunEnd::Fails { why, pc } => fails(alloc, proof, why, pc),
         RunEnd::TooMany { pc } => too_many(alloc, proof, pc),
     }
 }
 
-/// With a program that can be run and what the proof file says: its conditions, and then its run.
+/// With a program that types and what the proof file says: its conditions, and then its run.
 fn judge_proof(
     alloc: Global,
     row: &Names<'_>,
@@ -214,11 +219,10 @@ fn judge_proof(
     image: &Image,
     proof: &NamedProof,
 ) -> Result<Outcome, NoMemory>
-    requires widths { HasWidths (program_of typed.now) }
     requires wanted { AreBits proof.now.wanted }
     requires entry { AreBits proof.now.entry }
-    ensures { IfOk result (λ a. said_of a
-        ≡ spec.on_constants (row_named row.now) (program_of typed.now) proof.now (spec.constants_for (program_of typed.now) proof.now image.now.memory)) }
+    ensures { IfOk result (λ a. spec.on_constants (row_named row.now) (program_of typed.now) proof.now (spec.constants_for (program_of typed.now) proof.now image.now.memory)
+        ≡ Some (said_of a)) }
 {
     let registers = typed.registers();
     let pc = typed.pc();
@@ -238,7 +242,7 @@ fn judge_proof(
     on_end(alloc, proof, end)
 }
 
-/// With a program that can be run and an image.
+/// With a program that types and an image.
 fn judge_loaded(
     alloc: Global,
     row: &Names<'_>,
@@ -246,8 +250,7 @@ fn judge_loaded(
     image: &Image,
     proof: &[u8],
 ) -> Result<Outcome, NoMemory>
-    requires widths { HasWidths (program_of typed.now) }
-    ensures { IfOk result (λ a. said_of a ≡ spec.on_proof (row_named row.now) (program_of typed.now) image.now.memory (proof_form proof.now)) }
+    ensures { IfOk result (λ a. spec.on_proof (row_named row.now) (program_of typed.now) image.now.memory (proof_form proof.now) ≡ Some (said_of a)) }
 {
     match read_proof(alloc, proof)? {
         ReadProof::NoProof { at } => no_proof(alloc, row.proof, at),
@@ -256,7 +259,7 @@ fn judge_loaded(
     }
 }
 
-/// With a program that can be run.
+/// With a program that types.
 fn judge_image(
     alloc: Global,
     row: &Names<'_>,
@@ -264,8 +267,7 @@ fn judge_image(
     image: &[u8],
     proof: &[u8],
 ) -> Result<Outcome, NoMemory>
-    requires widths { HasWidths (program_of typed.now) }
-    ensures { IfOk result (λ a. said_of a ≡ spec.on_image (row_named row.now) (program_of typed.now) proof.now (image_of image.now)) }
+    ensures { IfOk result (λ a. spec.on_image (row_named row.now) (program_of typed.now) proof.now (image_of image.now) ≡ Some (said_of a)) }
 {
     match load(alloc, image) {
         Ok(image) => judge_loaded(alloc, row, typed, &image, proof),
@@ -273,31 +275,8 @@ fn judge_image(
     }
 }
 
-/// With a program of the form.
-fn judge_program(
-    alloc: Global,
-    row: &Names<'_>,
-    program: Program,
-    image: &[u8],
-    proof: &[u8],
-) -> Result<Outcome, NoMemory>
-    requires widths { HasWidths (program_of program) }
-    requires countable { IsCountable (program_of program) }
-    requires quiet { IsQuietProgram (program_of program) }
-    requires function { FunctionFits (program_of program) }
-    ensures { IfOk result (λ a. said_of a ≡ spec.on_program (row_named row.now) image.now proof.now (Some (program_of program))) }
-{
-    match check(alloc, program) {
-        Ok(typed) => judge_image(alloc, row, &typed, image, proof),
-        Err(TypeFault::NoInstr) => no_function(alloc, row.sail),
-        // It doesn't come: a program of the form that has the function has the register PC.
-        Err(TypeFault::NoPc) => no_function(alloc, row.sail),
-        Err(TypeFault::NoMemory) => Err(NoMemory),
-    }
-}
-
-/// What is said of three texts in files of these names, of which the first is shorter than 2^32 bytes. `NoMemory` comes
-/// for want of memory alone.
+/// What is said of three texts in files of these names: the first of them that can't be read, as `input 12 FILE bits(8) bool 186`, or what the run of the
+/// specification comes to. `NoMemory` comes for want of memory alone.
 #[tactic(auto, unfolding(crate::specs::Verdict::verdict))]
 pub fn judge(
     alloc: Global,
@@ -306,11 +285,10 @@ pub fn judge(
     image: &[u8],
     proof: &[u8],
 ) -> Result<Outcome, NoMemory>
-    requires short { length sail.now < 2 ^ 32 }
-    ensures { IfOk result (λ a. said_of a ≡ verdict (row_named row.now) sail.now image.now proof.now) }
+    ensures { IfOk result (λ a. verdict (row_named row.now) sail.now image.now proof.now ≡ Some (said_of a)) }
 {
-    match read_sail(alloc, sail)? {
-        Some(program) => judge_program(alloc, row, program, image, proof),
-        None => not_yet(alloc, row.sail),
+    match judge_sail(alloc, row.sail, sail)? {
+        Judged::Typed(typed) => judge_image(alloc, row, &typed, image, proof),
+        Judged::Faulty(outcome) => Ok(outcome),
     }
 }

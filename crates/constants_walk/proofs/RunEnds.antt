@@ -1,5 +1,5 @@
 -- What each end of the walk means, and what the run stands on.
-use Rattle.std.proofs.Common.{◌≡◌, ℕ, ◌<◌, List, [], ◌∷◌, length, map, sym, ap, ◌∙◌, arith, All, refl}
+use Rattle.std.proofs.Common.{◌≡◌, ℕ, ◌<◌, List, [], ◌∷◌, length, map, sym, ap, ◌∙◌, arith, All, Some, refl}
 use Rattle.std.proofs.lemmas.List.{length-map}
 use Rattle.std.proofs.lemmas.List.Elements.{All-head, All-tail, All-cons, All-nil}
 use Rattle.bv_bits.specs.Bits.{width_of}
@@ -28,9 +28,9 @@ are_there s ws pc (v ∷ vs) is h =
     (are_there s ws pc vs is (All-tail (IsPlaced ws pc) (pair_of v) (map pair_of vs) h))
 
 pub run_ends : (m : Machine) (c : Constants) (end : RunEnd) (w : World) → w ≡ start (entry_state m c) []
-    → (let walked = walk_from m c 0 c.entry_at 4096 w in end ≡ ended_at m c walked.0 walked.1) → end ≡ run_end_of m c
+    → (let walked = walk_from m c 0 c.entry_at 4096 w in ended_at m c walked.0 walked.1 ≡ Some end) → run_end_of m c ≡ Some end
 unfolding run_end_of
 run_ends m c end w is e =
     let walk_in = λ (n : ℕ) (v : World). walk_from m c 0 c.entry_at n v in
-    e ∙ ap (λ v. ended_at m c (walk_in 4096 v).0 (walk_in 4096 v).1) is
-    ∙ ap (λ n. ended_at m c (walk_in n (start (entry_state m c) [])).0 (walk_in n (start (entry_state m c) [])).1) (sym most_is)
+    ap (λ n. ended_at m c (walk_in n (start (entry_state m c) [])).0 (walk_in n (start (entry_state m c) [])).1) most_is
+    ∙ ap (λ v. ended_at m c (walk_in 4096 v).0 (walk_in 4096 v).1) (sym is) ∙ e

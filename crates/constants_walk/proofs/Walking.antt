@@ -1,14 +1,31 @@
 -- A walk, by where the PC is and what the step is.
-use Rattle.std.proofs.Common.{◌≡◌, ℕ, zero, suc, ◌+◌, [], refl, sym, ap, ◌∙◌, arith, Bool, true, false}
+use Rattle.std.proofs.Common.{◌≡◌, ℕ, zero, suc, ◌+◌, [], refl, sym, ap, ◌∙◌, arith, Bool, true, false, Some, None}
 use Rattle.std.specs.Prelude.{if◌then◌else◌, nat_le}
 use Rattle.state_core.specs.World.{World}
+use Rattle.state_core.specs.declared.kinds.FaultKind.{FaultKind}
+use Rattle.state_core.specs.declared.kinds.FaultKind.TheVariants as kind
 use Rattle.eval_words.specs.Instr.{Ended, whole, cut}
 use Rattle.machine_run.specs.Words.{is_long}
 use Rattle.machine_run.specs.Machine.{Machine, pc_of, step}
-use Rattle.machine_safe.specs.First.{Constants, end_of, is_inside, byte_of, size_by, size_at, has_touched, Walked, left, outside, too_many, at_pc, next_of, walk_from}
+use Rattle.machine_safe.specs.First.{Constants, end_of, is_inside, byte_of, size_by, size_at, has_touched, Walked, left, outside, fails, too_many, at_pc, next_of, walk_from, is_plain, IsPlainCut}
+use Rattle.constants_walk.specs.Failing.{failure_by, failure_of}
+use Rattle.constants_walk.specs.declared.failure.Failure.{Failure}
 use Rattle.constants_walk.specs.declared.walk.Walk.TheVariants as walk
 use Rattle.constants_walk.specs.declared.walk.Stepped.TheVariants as stepped
 use Rattle.constants_walk.specs.Walk.{IsStepped, IsWalked}
+
+-- ---- failures of the text
+
+plain_kind : (k : FaultKind) → is_plain k ≡ true → failure_by k ≡ None → ⊥
+plain_kind kind.MatchFail p n = absurd (cc)
+plain_kind kind.AssertFail p n = absurd (cc)
+plain_kind kind.Exit p n = absurd (cc)
+plain_kind kind.NoByte p n = absurd (cc)
+plain_kind kind.BadDevice p n = absurd (cc)
+
+-- a fault that the text itself makes is a failure
+pub plain_fails : (e : Ended) → IsPlainCut e → failure_of e ≡ None → ⊥
+plain_fails e plain none = plain_kind plain.0 plain.3 (ap failure_of (sym plain.2) ∙ none)
 
 -- ---- where the PC is
 
@@ -71,9 +88,16 @@ module _ (m : Machine) (c : Constants) where
         → IsStepped stepped.Touched w (step m [] w) x → IsWalked (walk.Touches pc) x all
     ends_touches k last room less pc w x rest more at did = one_step k last room less pc w x did.1.0 true rest more at did.1.1 did.0
 
-    pub ends_fails : (k last room less pc : ℕ) (w x : World) → all ≡ walk_from m c k last room w → room ≡ suc less → IsAt m c pc w true true
-        → IsStepped stepped.Cut w (step m [] w) x → IsWalked (walk.Fails pc) x all
-    ends_fails k last room less pc w x rest more at did = (cut did.1.0, one_step k last room less pc w x (cut did.1.0) false rest more at did.1.1 did.0)
+    pub ends_fails : (k last room less pc : ℕ) (w x : World) (failure : Failure) → all ≡ walk_from m c k last room w → room ≡ suc less → IsAt m c pc w true true
+        → IsStepped (stepped.Failed failure) w (step m [] w) x → IsWalked (walk.Fails failure pc) x all
+    ends_fails k last room less pc w x failure rest more at did =
+        (cut did.1.0, one_step k last room less pc w x (cut did.1.0) false rest more at did.1.1 did.0, did.1.2)
+
+    -- the fault is one of the text where the code is there
+    pub never_else : (k last room less pc : ℕ) (w x : World) → ((e : Ended) → all ≡ (fails e pc, x) → IsPlainCut e) → all ≡ walk_from m c k last room w → room ≡ suc less
+        → IsAt m c pc w true true → IsStepped stepped.Halted w (step m [] w) x → ⊥
+    never_else k last room less pc w x plain rest more at did =
+        plain_fails (cut did.1.0) (plain (cut did.1.0) (one_step k last room less pc w x (cut did.1.0) false rest more at did.1.1 did.0)) did.1.2
 
 -- where the PC is, by the tests of the code
 pub is_out : (m : Machine) (c : Constants) (pc : ℕ) (w : World) (a : Bool) → pc ≡ pc_of m w.state → a ≡ is_inside c pc → a ≡ false

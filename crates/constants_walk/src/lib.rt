@@ -4,6 +4,7 @@
 mod code;
 mod conditions;
 mod entry;
+mod failure;
 mod register_places;
 mod run_form;
 mod walk;
@@ -11,6 +12,7 @@ mod walk;
 pub use code::code_of;
 pub use conditions::{ConstantsData, constants};
 pub use entry::entry_state;
+pub use failure::{Failure, failure_by};
 pub use register_places::{PlacedValue, place_registers};
 pub use run_form::{RunEnd, run_constants};
 pub use walk::{Walk, walk_on};

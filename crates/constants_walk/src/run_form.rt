@@ -1,6 +1,6 @@
 //! The run of a specification over constants from the one state that its entry and its code give.
 
-ghost use Rattle.std.specs.Prelude.{◌≡◌, ◌<◌, ◌+◌, [], length, map, All, IfOk};
+ghost use Rattle.std.specs.Prelude.{◌≡◌, ◌<◌, ◌+◌, [], length, map, All, IfOk, Some};
 ghost use Rattle.sail_syntax.specs.View.{program_of};
 ghost use Rattle.state_core.specs.State.{widths_of};
 ghost use Rattle.state_core.specs.World as worlds;
@@ -15,6 +15,7 @@ ghost use Rattle.constants_walk.specs.Walk.{IsWalked};
 
 use crate::conditions::ConstantsData;
 use crate::entry::entry_state;
+use crate::failure::Failure;
 use crate::register_places::PlacedValue;
 use crate::walk::{Walk, walk_on};
 use bv_bits::Bits;
@@ -40,8 +41,8 @@ pub enum RunEnd {
     Outside { pc: u64 },
     /// The instruction at the PC accesses memory or a device.
     Touches { pc: u64 },
-    /// The instruction at the PC ends early.
-    Fails { pc: u64 },
+    /// The instruction at the PC fails.
+    Fails { why: Failure, pc: u64 },
     /// One instruction too many stands at the PC.
     TooMany { pc: u64 },
 }
@@ -101,13 +102,13 @@ fn end_of_walk(typed: &Typed, given: &ConstantsData, world: &World, walk: Walk) 
     requires widths { widths_of world.now.state ≡ widths_in (program_of typed.now) }
     requires exit { ArePlaced (widths_in (program_of typed.now)) (machine_of (program_of typed.now)).pc (map pair_of given.now.exit) }
     ensures { (c : Constants) (r : first.Walked × worlds.World) → c.exit_at ≡ given.now.exit_at → c.exit ≡ map pair_of given.now.exit
-        → IsWalked walk world.now r → result ≡ spec.ended_at (machine_of (program_of typed.now)) c r.0 r.1 }
+        → IsWalked walk world.now r → spec.ended_at (machine_of (program_of typed.now)) c r.0 r.1 ≡ Some result }
 {
     match walk {
         Walk::Left { count, last } => left_end(typed, given, world, count, last),
         Walk::Outside { pc } => RunEnd::Outside { pc },
         Walk::Touches { pc } => RunEnd::Touches { pc },
-        Walk::Fails { pc } => RunEnd::Fails { pc },
+        Walk::Fails { failure, pc } => RunEnd::Fails { why: failure, pc },
         Walk::TooMany { pc } => RunEnd::TooMany { pc },
     }
 }
@@ -123,7 +124,7 @@ pub fn run_constants(
     requires size { given.now.lo + length code.now ≡ given.now.hi }
     requires entry { ArePlaced (widths_in (program_of typed.now)) (machine_of (program_of typed.now)).pc (map pair_of given.now.entry) }
     requires exit { ArePlaced (widths_in (program_of typed.now)) (machine_of (program_of typed.now)).pc (map pair_of given.now.exit) }
-    ensures { IfOk result (λ end. end ≡ run_end_of (machine_of (program_of typed.now)) (constants_of given.now code.now)) }
+    ensures { IfOk result (λ end. run_end_of (machine_of (program_of typed.now)) (constants_of given.now code.now) ≡ Some end) }
 {
     let state = entry_state(alloc, typed, given, code)?;
     let mut world = start(alloc, state);

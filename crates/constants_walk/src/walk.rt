@@ -3,6 +3,7 @@
 ghost use Rattle.std.specs.Prelude.{◌≡◌, ◌≤◌, ◌<◌, ◌+◌, ◌-◌, [], true, nat_le, length, drop, IfOk};
 ghost use Rattle.std.specs.List.{list_any};
 ghost use Rattle.sail_syntax.specs.View.{program_of};
+ghost use Rattle.state_core.specs.Claims.{HasBytes};
 ghost use Rattle.state_core.specs.State.{widths_of};
 ghost use Rattle.state_core.specs.World as worlds;
 ghost use Rattle.eval_words.specs.Agrees.{Ends};
@@ -17,6 +18,7 @@ ghost use Rattle.constants_walk.specs.Conditions.{constants_of};
 ghost use Rattle.constants_walk.specs.Walk.{IsStepped, IsWalked};
 
 use crate::conditions::ConstantsData;
+use crate::failure::{Failure, failure_by};
 use eval_parts::World;
 use lex_core::NoMemory;
 use machine_run::{pc_value, step};
@@ -36,8 +38,8 @@ pub enum Walk {
     Outside { pc: u64 },
     /// The instruction at the PC accesses memory or a device.
     Touches { pc: u64 },
-    /// The instruction at the PC ends early.
-    Fails { pc: u64 },
+    /// The instruction at the PC fails.
+    Fails { failure: Failure, pc: u64 },
     /// One instruction too many stands at the PC.
     TooMany { pc: u64 },
 }
@@ -49,8 +51,10 @@ enum Stepped {
     Whole,
     /// It accesses memory or a device.
     Touched,
-    /// It ends early, and accesses neither memory nor a device.
-    Cut,
+    /// It fails, and accesses neither memory nor a device.
+    Failed { failure: Failure },
+    /// A fault of memory or of a device, or want of an answer, cuts it short, and it accesses neither.
+    Halted,
 }
 
 /// Whether the text has words of two bytes.
@@ -128,7 +132,11 @@ fn comes_to(touched: bool, outcome: Outcome) -> Result<Stepped, NoMemory>
     match outcome {
         Outcome::NoMemory => Err(NoMemory),
         Outcome::Value(_) if !touched => Ok(Stepped::Whole),
-        Outcome::Fault { .. } | Outcome::NoAnswer if !touched => Ok(Stepped::Cut),
+        Outcome::Fault { kind, .. } if !touched => match failure_by(kind) {
+            Some(failure) => Ok(Stepped::Failed { failure }),
+            None => Ok(Stepped::Halted),
+        },
+        Outcome::NoAnswer if !touched => Ok(Stepped::Halted),
         _ => Ok(Stepped::Touched),
     }
 }
@@ -151,7 +159,8 @@ fn step_on(
 }
 
 /// Walks through the code from its entry: steps while the PC lies in the code, at most so many. `code` has the bytes from
-/// `given.lo` up to below `given.hi`. The world has the text's registers. `NoMemory` comes for want of memory alone.
+/// `given.lo` up to below `given.hi`. The world has the text's registers, and the code's bytes in its memory: so nothing but a failure
+/// of the text ends an instruction early that accesses nothing. `NoMemory` comes for want of memory alone.
 pub fn walk_on(
     alloc: Global,
     typed: &Typed,
@@ -162,6 +171,7 @@ pub fn walk_on(
 ) -> Result<Walk, NoMemory>
     requires widths { widths_of world.old.state ≡ widths_in (program_of typed.now) }
     requires size { given.now.lo + length code.now ≡ given.now.hi }
+    requires there { HasBytes world.old.state.memory given.now.lo code.now }
     ensures walked { IfOk result (λ walk. IsWalked walk world.new
         (walk_from (machine_of (program_of typed.now)) (constants_of given.now code.now) 0 given.now.entry_at most world.old)) }
     ensures widths { widths_of world.new.state ≡ widths_of world.old.state }
@@ -186,7 +196,8 @@ pub fn walk_on(
         match step_on(alloc, typed, &devs, world)? {
             Stepped::Whole => {}
             Stepped::Touched => return Ok(Walk::Touches { pc }),
-            Stepped::Cut => return Ok(Walk::Fails { pc }),
+            Stepped::Failed { failure } => return Ok(Walk::Fails { failure, pc }),
+            Stepped::Halted => unreachable!(),
         }
         last = pc;
         count += 1;

@@ -1,32 +1,23 @@
-//! Runs the cases of the forms that standard input names, one a line, and prints each with its result.
+//! Runs the cases of the form of proof files that standard input names, one a line, and prints each with its result.
 //!
-//! `sail TEXT` tells the program that a Sail text is, with its places. `proof TEXT` tells what a proof file says, or the
-//! place that shows that it is none; `change OLD|NEW` the same of the proof file in the data with the first `OLD` changed to
-//! `NEW`. `constants COUNT OLD|NEW` tells the constants of that file over so many registers. Texts have escapes. The other
-//! commands are told at `other`.
+//! `proof TEXT` tells what a proof file says, or the place that shows that it is none; `change OLD|NEW` the same of the proof
+//! file in the data with the first `OLD` changed to `NEW`. `constants COUNT OLD|NEW` tells the constants of that file over so
+//! many registers. Texts have escapes. The other commands are told at `other`.
 #![tactic(auto)]
 
 mod others;
 mod proofs;
-mod sails;
 
 use case_lines::{bytes_of, cut_word, is_comment};
 use files_core::{HostFiles, InFault, read_all};
 use lex_core::NoMemory;
 use others::other;
 use proofs::{changed, constants_of, proof};
-use sails::sail;
 use std::alloc::Global;
 use std::io;
 
 /// No file of the data is longer.
 const LONGEST: u64 = 65536;
-
-/// What the text with escapes says as a Sail text.
-fn sail_case(alloc: Global, rest: &str) -> Result<String, NoMemory> {
-    let text = bytes_of(alloc, rest)?;
-    sail(alloc, text.as_slice())
-}
 
 /// What the text with escapes says as a proof file.
 fn proof_case(alloc: Global, rest: &str) -> Result<String, NoMemory> {
@@ -43,9 +34,7 @@ fn change_case(alloc: Global, base: &str, rest: &str) -> Result<String, NoMemory
 /// What the case on this line comes to. `base` is the proof file in the data.
 fn case(alloc: Global, base: &str, line: &str) -> Result<String, NoMemory> {
     let (what, rest) = cut_word(line);
-    if what == "sail" {
-        sail_case(alloc, rest)
-    } else if what == "proof" {
+    if what == "proof" {
         proof_case(alloc, rest)
     } else if what == "change" {
         change_case(alloc, base, rest)

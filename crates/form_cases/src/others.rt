@@ -2,8 +2,8 @@
 
 use bv_bits::Bits;
 use case_lines::{bytes_of, hex_bytes, number_32, number_64, spelled, words};
-use constants_run::{PlacedValue, code_of, place_registers};
 use constants_text::{address, on_file, on_name, on_run};
+use constants_walk::{PlacedValue, code_of, place_registers};
 use elf_image::{Image, load};
 use lex_core::{Name, NoMemory, RegDecl};
 use proof_form::NamedValue;

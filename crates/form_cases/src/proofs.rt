@@ -2,7 +2,7 @@
 
 use bv_bits::Bits;
 use case_lines::{bytes_of, cut_word, number_32, spelled};
-use constants_run::{ConstantsData, PlacedValue, constants};
+use constants_walk::{ConstantsData, PlacedValue, constants};
 use lex_core::{Name, NoMemory};
 use proof_form::{NamedProof, NamedValue, ReadProof, read_proof};
 use sqlite_items::Items;

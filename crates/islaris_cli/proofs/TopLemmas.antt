@@ -301,7 +301,7 @@ accepted_in words r w said is grown of = record {
   proof = of.judged.proof;
   report = said.text;
   read = of.judged.read;
-  accepted = accepting of.row of.judged.sail of.judged.image of.judged.proof said.text (of.judged.judged ∙ accepted_is said.status said.text is);
+  accepted = accepting of.row of.judged.sail of.judged.image of.judged.proof said.text (of.judged.judged ∙ ap (λ (x : Said). Some x) (accepted_is said.status said.text is));
   grown = grown;
 }
 

@@ -100,7 +100,7 @@ pub record IsJudged (store : Option Store) (row : Row) (said : Said) : Type 0 wh
   pub image : Text
   pub proof : Text
   pub read : AreRead store row sail image proof
-  pub judged : verdict row sail image proof ≡ said
+  pub judged : verdict row sail image proof ≡ Some said
 
 -- the Sail text was read, and this is said of it
 pub record IsTraced (store : Option Store) (t : TraceSaid) (said : Said) : Type 0 where
@@ -229,7 +229,7 @@ answer_over files (check row) =
     with_file (file_of files row.sail) (sail_source row.sail) (λ sail.
     with_file (file_of files row.image) (image_source row.image) (λ image.
     with_file (file_of files row.proof) (proof_source row.proof) (λ proof.
-    Some (verdict row sail image proof))))
+    verdict row sail image proof)))
 answer_over files (trace t) = with_file (file_of files t.sail) (sail_source t.sail) (λ sail. trace_verdict t sail)
 
 -- the call gives what is said, wholly written

@@ -93,3 +93,33 @@ touch_tells defs w x word is =
     let m = machine_of defs in
     ap (λ g. has_touched w (executed m [] g).1) is
     ∙ touched_as defs w x word (subst (λ g. AddsFetches w (reached g)) is (word_adds [] (pc_of m w.state) m.short w)) (has_access (moments_of_instr defs [] word x)) refl
+
+-- ---- a step that touches has fetched its word
+
+-- a word that is fetched at the PC, and accesses memory or a device
+pub record Fetched (defs : List Definition) (w : World) : Type 0 where
+  pub word : Word
+  pub behind : World
+  pub is : fetch_word (machine_of defs).short [] (pc_of (machine_of defs) w.state) w ≡ gets word behind
+  pub accesses : has_access (moments_of_instr defs [] word behind) ≡ true
+
+fetches_touch_nothing : (w x : World) → AddsFetches w x → has_touched w x ≡ true → ⊥
+fetches_touch_nothing w x adds touched =
+    let not_touched : has_touched w x ≡ false = ap (list_any is_data) (added_by w.accesses x.accesses adds.0 adds.1) ∙ adds.2 in
+    let no : true ≡ false = sym touched ∙ not_touched in absurd (cc)
+
+fetched_by : (defs : List Definition) (w : World) (g : Got Word) → fetch_word (machine_of defs).short [] (pc_of (machine_of defs) w.state) w ≡ g → AddsFetches w (reached g)
+    → has_touched w (executed (machine_of defs) [] g).1 ≡ true → has_touched w (step (machine_of defs) [] w).1 ≡ true → Fetched defs w
+fetched_by defs w (gets word x) is adds touched whole = record { word = word; behind = x; is = is; accesses = sym (touch_tells defs w x word is) ∙ whole }
+fetched_by defs w (faults k x) is adds touched whole = absurd (fetches_touch_nothing w x adds touched)
+fetched_by defs w (lacks x) is adds touched whole = absurd (fetches_touch_nothing w x adds touched)
+
+step_as : (defs : List Definition) (w : World) → step (machine_of defs) [] w ≡ executed (machine_of defs) [] (fetch_word (machine_of defs).short [] (pc_of (machine_of defs) w.state) w)
+unfolding step
+step_as defs w = refl
+
+pub touch_fetched : (defs : List Definition) (w : World) → has_touched w (step (machine_of defs) [] w).1 ≡ true → Fetched defs w
+touch_fetched defs w touched =
+    let m = machine_of defs in
+    fetched_by defs w (fetch_word m.short [] (pc_of m w.state) w) refl (word_adds [] (pc_of m w.state) m.short w)
+    (ap (λ s. has_touched w s.1) (sym (step_as defs w)) ∙ touched) touched

@@ -27,6 +27,9 @@ pub const RANGE: u32 = 21;
 /// The image is longer than its limit, as a file or by the sizes of its segments.
 pub const TOO_LARGE: u32 = 22;
 
+/// An instruction accesses memory or a device, and nothing is owned there.
+pub const TOUCHES: u32 = 34;
+
 /// The text is no proof file.
 pub const NO_PROOF: u32 = 39;
 
@@ -36,7 +39,7 @@ pub const WRONG_END: u32 = 44;
 /// The run makes more than the most instructions.
 pub const TOO_MANY: u32 = 46;
 
-/// The word has no meaning: no arm fits it.
+/// An instruction fails: no arm of a match fits, the test of an assert is false, or the exit.
 pub const FAILS: u32 = 48;
 
 /// A fetch isn't wholly inside the code.

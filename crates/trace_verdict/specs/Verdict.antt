@@ -2,14 +2,10 @@
 use Rattle.std.specs.Prelude.{◌≡◌, ◌⊎◌, Bool, true, false, List, codes, Option, Some, None, Result, Ok, Err}
 use Rattle.lex_core.specs.Classes.{Text}
 use Rattle.sail_syntax.specs.Program.{Definition}
-use Rattle.sail_reader.specs.Reading.{read_text}
-use Rattle.sail_reader.specs.declared.fault.SailFault.{SailFault}
-use Rattle.type_rules.specs.Program.{type_fault}
-use Rattle.type_rules.specs.declared.fault.TypeFault.{TypeFault}
-use Rattle.sail_fault_text.specs.FaultText.{input, read_said, type_said}
+use Rattle.sail_verdict.specs.Verdict.{IsTyped, sail_verdict}
+use Rattle.sail_fault_text.specs.FaultText.{input}
 use Rattle.constants_text.specs.Texts.{usage_text}
 use Rattle.report_text.specs.Outcome.{Said}
-use Rattle.report_text.specs.declared.outcome.Status.{Status}
 use Rattle.report_text.specs.declared.outcome.Status.TheVariants as kind
 use Rattle.report_text.specs.declared.numbers.TheConstants.{NOT_YET}
 use Rattle.trace_words.specs.Trace.{TraceSaid}
@@ -24,27 +20,21 @@ abbrev pub on_typed : Text → Bool → Said
 on_typed file true = input file NOT_YET (codes "0")
 on_typed file false = misfit
 
--- with the program that the text spells, and the first fault of its types
-abbrev pub on_types : TraceSaid → List Definition → Option TypeFault → Option Said
-on_types t defs None = Some (on_typed t.sail (words_fit defs t))
-on_types t defs (Some f) = type_said t.sail f
-
--- with the program that the text spells, or its first fault
-abbrev pub on_read : TraceSaid → Result (List Definition) SailFault → Option Said
-on_read t (Ok defs) = on_types t defs (type_fault defs)
-on_read t (Err f) = read_said t.sail f
+-- with the program of a text that types, or what is said of the text's first fault
+abbrev pub on_sail : TraceSaid → Result (List Definition) (Option Said) → Option Said
+on_sail t (Ok defs) = Some (on_typed t.sail (words_fit defs t))
+on_sail t (Err said) = said
 
 -- what is said of the text; nothing only of want of memory, which no text has
 abbrev pub trace_verdict : TraceSaid → Text → Option Said
-trace_verdict t text = on_read t (read_text text)
+trace_verdict t text = on_sail t (sail_verdict t.sail text)
 
 -- ---- laws
 
 -- the text spells a program that types, and the words don't fit it
 pub record IsMisfit (t : TraceSaid) (text : Text) : Type 0 where
   pub defs : List Definition
-  pub spelled : read_text text ≡ Ok defs
-  pub typed : type_fault defs ≡ None
+  pub program : IsTyped text defs
   pub misfit : words_fit defs t ≡ false
 
 -- what can be said: an input or a limit, or that the words don't fit, where they don't

@@ -1,9 +1,10 @@
 //! What is said of a Sail text where the words of a trace name it.
 
-ghost use Rattle.std.specs.Prelude.{◌≡◌, true, IfOk, Some, None};
+ghost use Rattle.std.specs.Prelude.{◌≡◌, true, IfOk, Some};
 ghost use Rattle.report_text.specs.Outcome.{said_of};
 ghost use Rattle.sail_syntax.specs.View.{program_of};
 ghost use Rattle.trace_words.specs.Trace.{trace_said};
+ghost use Rattle.trace_answer.specs.Fits.{words_fit};
 ghost use Rattle.trace_verdict.specs.Verdict as spec;
 ghost use Rattle.trace_verdict.specs.Verdict.{trace_verdict};
 
@@ -11,9 +12,8 @@ use constants_text::{on_file, usage};
 use lex_core::NoMemory;
 use report_text::numbers::NOT_YET;
 use report_text::{Outcome, Status};
-use sail_fault_text::{read_fault, type_fault};
-use sail_reader::read;
-use sail_typed::{Typed, check};
+use sail_typed::Typed;
+use sail_verdict::{Judged, judge_sail};
 use std::alloc::Global;
 use trace_answer::words_fit;
 use trace_words::TraceGiven;
@@ -42,7 +42,7 @@ fn misfit(alloc: Global) -> Result<Outcome, NoMemory>
 
 /// What is said of a program that types: the words fit it, or they don't.
 fn judge_typed(alloc: Global, words: &TraceGiven<'_>, typed: &Typed) -> Result<Outcome, NoMemory>
-    ensures { IfOk result (λ a. spec.on_types (trace_said words.now) (program_of typed.now) None ≡ Some (said_of a)) }
+    ensures { IfOk result (λ a. said_of a ≡ spec.on_typed (trace_said words.now).sail (words_fit (program_of typed.now) (trace_said words.now))) }
 {
     if words_fit(typed.program(), words) {
         not_yet(alloc, words.sail)
@@ -56,12 +56,8 @@ fn judge_typed(alloc: Global, words: &TraceGiven<'_>, typed: &Typed) -> Result<O
 pub fn judge_trace(alloc: Global, words: &TraceGiven<'_>, text: &[u8]) -> Result<Outcome, NoMemory>
     ensures said { IfOk result (λ a. trace_verdict (trace_said words.now) text.now ≡ Some (said_of a)) }
 {
-    let program = match read(alloc, text) {
-        Ok(program) => program,
-        Err(fault) => return read_fault(alloc, words.sail, fault),
-    };
-    match check(alloc, program) {
-        Ok(typed) => judge_typed(alloc, words, &typed),
-        Err(fault) => type_fault(alloc, words.sail, &fault),
+    match judge_sail(alloc, words.sail, text)? {
+        Judged::Typed(typed) => judge_typed(alloc, words, &typed),
+        Judged::Faulty(outcome) => Ok(outcome),
     }
 }

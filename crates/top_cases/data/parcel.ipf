@@ -1,0 +1,7 @@
+islaris_proof 1
+spec inc {
+  code 0x80000000 0x80000002;
+  exit out at 0x0000000080000002 { reg x10 = 0x0000000000000042; } steps { }
+  block entry at 0x80000000 { reg x10 = 0x0000000000000041; reg x1 = 0x0000000000000000; reg x11 = 0x0000000000000000; reg x12 = 0x0000000000000000; reg x13 = 0x0000000000000000; }
+  steps { exit out () (); }
+}
