@@ -1,6 +1,0 @@
-mod Written
-mod Turns
-mod Weight
-pub mod CoveredLemmas
-pub mod QuietLemmas
-mod Ending

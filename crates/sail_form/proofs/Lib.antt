@@ -1,2 +1,0 @@
-pub mod SailFormHolding
-pub mod SailFormWhole

@@ -1,3 +1,0 @@
-pub mod SailForm
-pub mod SailFormSpelling
-pub mod SailFormSyntax

@@ -1,3 +1,0 @@
-pub mod Typing
-pub mod Covered
-pub mod Checked

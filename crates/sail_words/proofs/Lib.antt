@@ -1,5 +1,0 @@
-pub mod SailFormAfter
-pub mod SailFormAll
-pub mod SailFormApart
-pub mod SailFormBehind
-pub mod SailFormCut
