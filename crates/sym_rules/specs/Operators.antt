@@ -95,15 +95,20 @@ sym_differ a b = compares_same op.Ne not a b
 
 -- ---- infix operators
 
--- an infix operator on two values; on bool, `&` and `|` come here with the left side open alone
+-- `&` or `|`: of bools the left side is open, and the value is the right one
+abbrev pub open_or : Op → SymValue → SymValue → Telling SymValue
+open_or o (sym_truth a) b = said_just b
+open_or o sym_unit b = sym_operate o sym_unit b
+open_or o (sym_bits a) b = sym_operate o (sym_bits a) b
+open_or o (sym_member e i) b = sym_operate o (sym_member e i) b
+
+-- an infix operator on two values; on bools, `&` and `|` come here with the left side open alone
 abbrev pub sym_applied : Infix → SymValue → SymValue → Telling SymValue
 sym_applied between.Add a b = sym_operate op.Add a b
 sym_applied between.Sub a b = sym_operate op.Sub a b
 sym_applied between.Mul a b = sym_operate op.Mul a b
-sym_applied between.And (sym_truth a) b = said_just b
-sym_applied between.And a b = sym_operate op.And a b
-sym_applied between.Or (sym_truth a) b = said_just b
-sym_applied between.Or a b = sym_operate op.Or a b
+sym_applied between.And a b = open_or op.And a b
+sym_applied between.Or a b = open_or op.Or a b
 sym_applied between.Xor a b = sym_operate op.Xor a b
 sym_applied between.Join a b = sym_operate op.Concat a b
 sym_applied between.Eq a b = sym_same a b

@@ -9,7 +9,7 @@ use Rattle.term_tree.specs.Terms.{Text, Tree}
 use Rattle.term_print.specs.Printing.{term_text}
 use Rattle.trace_plain.specs.Trace.{Event, read_reg, write_reg, read_mem, write_mem, assume, need, assume_reg, Trace, trace, End, done, fail, cases, Traces, none, some, count}
 use Rattle.trace_print.specs.Printing.{register_text, var_text, number_text, cases_text, shown_text, event_text, events_text, trace_text, end_text, children_text}
-use Rattle.trace_print.specs.Terms.{OfEvent, OfEvents, OfTrace, OfEnd, OfTraces}
+use Rattle.trace_plain.specs.Terms.{OfEvent, OfEvents, OfTrace, OfEnd, OfTraces}
 
 -- a term whose text is UTF-8
 IsPlain : Tree → Type 0

@@ -8,7 +8,7 @@ ghost use Rattle.trace_plain.specs.Printable.{AreRegisters, IsPrintable, IsPrint
 ghost use Rattle.trace_plain.specs.Trace.{count};
 ghost use Rattle.trace_plain.specs.View.{end_of, trace_of, traces};
 ghost use Rattle.trace_print.specs.Printing as spec;
-ghost use Rattle.trace_print.specs.Terms.{OfTrace};
+ghost use Rattle.trace_plain.specs.Terms.{OfTrace};
 
 use crate::events::put_events;
 use crate::words::{failure_word, put, put_count};

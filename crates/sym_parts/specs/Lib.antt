@@ -1,0 +1,4 @@
+pub mod Causes
+pub mod Compares
+pub mod Fits
+pub mod Views
