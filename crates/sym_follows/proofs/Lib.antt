@@ -1,0 +1,15 @@
+mod Trees
+mod Bridge
+mod Values
+mod Sound
+mod Parts
+mod Agree
+mod Does
+mod Things
+mod Names
+mod Memory
+mod Grow
+mod Calls
+mod Simulate
+mod Typed
+mod Program

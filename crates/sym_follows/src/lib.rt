@@ -1,0 +1,4 @@
+//! Evaluation follows the trace: the law that puts traces on the meaning of a text.
+#![tactic(auto)]
+
+pub mod laws;
