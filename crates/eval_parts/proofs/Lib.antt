@@ -1,2 +1,3 @@
 pub mod NewestLemmas
+pub mod Passing
 pub mod Written

@@ -22,7 +22,7 @@ use Rattle.sail_values.specs.Slots.{put, has}
 use Rattle.sail_names.specs.declared.things.Named.{Named}
 use Rattle.sail_names.specs.declared.things.Thing.{Thing}
 use Rattle.sail_names.specs.Things.{find_thing}
-use Rattle.eval_rules.specs.Flow.{Out, gives}
+use Rattle.eval_rules.specs.Flow.{gives}
 use Rattle.eval_rules.specs.Names.{in_state, write, assigned}
 
 -- a register gets a value of its width

@@ -13,6 +13,7 @@ use Rattle.sail_values.specs.declared.value.Slot.{Slot}
 use Rattle.sail_values.specs.declared.value.Stop.{Stop}
 use Rattle.sail_values.specs.declared.value.Stop.TheVariants as stop
 use Rattle.eval_rules.specs.Flow.{Out, gives, stops}
+use Rattle.eval_rules.specs.Moments.{Moment, IsPassed}
 
 -- a world is stored as its parts
 abbrev pub world_code : Coded World
@@ -26,6 +27,17 @@ Agrees (Ok x) locals world out = out ≡ gives x locals world
 Agrees (Err (stop.Fault kind at)) locals world out = out ≡ stops (fault kind at) world
 Agrees (Err stop.NoAnswer) locals world out = out ≡ stops lacks_answer world
 Agrees (Err stop.NoMemory) locals world out = Unit {0}
+
+-- where an evaluation ends for want of memory, the world is one that these moments pass from the first world on
+abbrev pub StopsPassed : Stop → World → World → List Moment → Type 0
+StopsPassed (stop.Fault kind at) world start ms = Unit {0}
+StopsPassed stop.NoAnswer world start ms = Unit {0}
+StopsPassed stop.NoMemory world start ms = IsPassed world start ms
+
+-- the same of what is answered
+abbrev pub LeavesPassed : {X : Type 0} → Result X Stop → World → World → List Moment → Type 0
+LeavesPassed (Ok x) world start ms = Unit {0}
+LeavesPassed (Err why) world start ms = StopsPassed why world start ms
 
 -- why an access at a place of the text gives nothing
 abbrev pub stop_at : ℕ → MemStop → Stop

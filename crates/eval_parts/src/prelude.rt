@@ -2,7 +2,9 @@
 
 ghost use Rattle.std.specs.Prelude.{◌≡◌, ◌≤◌, List};
 ghost use Rattle.eval_rules.specs.Prelude as spec;
-ghost use Rattle.eval_parts.specs.Worlds.{Agrees};
+ghost use Rattle.eval_rules.specs.Moments.{read_moments, vector_moments, write_moments, given_moments};
+ghost use Rattle.eval_parts.specs.Worlds.{Agrees, LeavesPassed};
+ghost use Rattle.sail_values.specs.Values as values;
 ghost use Rattle.sail_values.specs.declared.value.Slot.{Slot};
 ghost use Rattle.state_core.specs.State.{widths_of};
 
@@ -53,6 +55,7 @@ fn read_bytes(
     world: &mut World,
 ) -> Result<Value, Stop>
     ensures value { (locals : List Slot) → Agrees result locals world.new (spec.read_bytes devs.now.ranges bytes at address locals world.old) }
+    ensures passed { LeavesPassed result world.new world.old (read_moments devs.now.ranges bytes address world.old) }
     ensures widths { widths_of world.new.state ≡ widths_of world.old.state }
 {
     let Value::Bits(address) = address else {
@@ -76,6 +79,7 @@ fn write_vector(
     world: &mut World,
 ) -> Result<Value, Stop>
     ensures value { (locals : List Slot) → Agrees result locals world.new (spec.write_vector devs.now.ranges bytes at address value locals world.old) }
+    ensures passed { LeavesPassed result world.new world.old (vector_moments devs.now.ranges bytes address value world.old) }
     ensures widths { widths_of world.new.state ≡ widths_of world.old.state }
 {
     let Value::Bits(value) = value else {
@@ -98,6 +102,7 @@ fn write_bytes(
     world: &mut World,
 ) -> Result<Value, Stop>
     ensures value { (locals : List Slot) → Agrees result locals world.new (spec.write_bytes devs.now.ranges bytes at address value locals world.old) }
+    ensures passed { LeavesPassed result world.new world.old (write_moments devs.now.ranges bytes address value world.old) }
     ensures widths { widths_of world.new.state ≡ widths_of world.old.state }
 {
     match address {
@@ -116,6 +121,7 @@ fn given_on(
     world: &mut World,
 ) -> Result<Value, Stop>
     ensures value { (locals : List Slot) → Agrees result locals world.new (spec.given_on devs.now.ranges given at a b locals world.old) }
+    ensures passed { LeavesPassed result world.new world.old (given_moments devs.now.ranges given a b world.old) }
     ensures widths { widths_of world.new.state ≡ widths_of world.old.state }
 {
     match given {
@@ -143,6 +149,7 @@ pub fn given_call(
     world: &mut World,
 ) -> Result<Value, Stop>
     ensures value { (locals : List Slot) → Agrees result locals world.new (spec.given_call devs.now.ranges given at args.now locals world.old) }
+    ensures passed { LeavesPassed result world.new world.old (given_moments devs.now.ranges given (values.nth 0 args.now) (values.nth 1 args.now) world.old) }
     ensures widths { widths_of world.new.state ≡ widths_of world.old.state }
 {
     given_on(devs, given, at, nth(0, args), nth(1, args), world)

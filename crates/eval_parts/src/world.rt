@@ -2,11 +2,13 @@
 
 ghost use Rattle.std.specs.Prelude.{◌≡◌, ◌<◌, ◌≤◌, ◌^◌, ◌*◌, length, IfOk};
 ghost use Rattle.bv_bits.specs.Bits.{IsBits};
-ghost use Rattle.state_core.specs.Memory.{load, store, fetch, nothing};
+ghost use Rattle.state_core.specs.Memory.{load, store, fetch, logged, nothing};
 ghost use Rattle.state_core.specs.State.{register_of, widths_of};
 ghost use Rattle.state_core.specs.World.{world_of};
+ghost use Rattle.state_core.specs.declared.kinds.AccessKind.TheVariants.{Fetch, Read, Write};
+ghost use Rattle.eval_rules.specs.Moments.{access_moments};
 ghost use Rattle.eval_rules.specs.Names.{with_bits, with_value, in_state};
-ghost use Rattle.eval_parts.specs.Worlds.{Accesses, stop_at};
+ghost use Rattle.eval_parts.specs.Worlds.{Accesses, LeavesPassed, stop_at};
 
 use bv_bits::Bits;
 use sail_values::{Stop, Value, is_vector};
@@ -115,6 +117,7 @@ impl World {
         requires few { bytes ≤ 16 }
         ensures value { Accesses (λ n. n) at result self.new (fetch devs.now.ranges addr bytes self.old) }
         ensures fits { IfOk result (λ n. n < 2 ^ (8 * bytes)) }
+        ensures passed { LeavesPassed result self.new self.old (access_moments (logged Fetch addr bytes self.old) (fetch devs.now.ranges addr bytes self.old)) }
         ensures widths { widths_of self.new.state ≡ widths_of self.old.state }
     {
         match fetch(devs, addr, bytes, &self.state, &mut self.log) {
@@ -128,6 +131,7 @@ impl World {
         requires few { bytes ≤ 16 }
         ensures value { Accesses (λ n. n) at result self.new (load devs.now.ranges addr bytes self.old) }
         ensures fits { IfOk result (λ n. n < 2 ^ (8 * bytes)) }
+        ensures passed { LeavesPassed result self.new self.old (access_moments (logged Read addr bytes self.old) (load devs.now.ranges addr bytes self.old)) }
         ensures widths { widths_of self.new.state ≡ widths_of self.old.state }
     {
         match load(
@@ -155,6 +159,7 @@ impl World {
         requires few { bytes ≤ 16 }
         requires fits { value < 2 ^ (8 * bytes) }
         ensures value { Accesses (λ _. nothing) at result self.new (store devs.now.ranges addr bytes value self.old) }
+        ensures passed { LeavesPassed result self.new self.old (access_moments (logged Write addr bytes self.old) (store devs.now.ranges addr bytes value self.old)) }
         ensures widths { widths_of self.new.state ≡ widths_of self.old.state }
     {
         match store(devs, addr, bytes, value, &mut self.state, &mut self.log) {

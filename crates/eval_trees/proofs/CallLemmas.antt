@@ -15,14 +15,14 @@ use Rattle.eval_rules.specs.Names.{Setting}
 use Rattle.eval_rules.specs.Eval.{calls_of, entered}
 use Rattle.eval_trees.specs.Inside.{calls_in, on_last, is_function_definition}
 
-apart : (i n : ℕ) → n < i → nat_eq i n ≡ false
+pub apart : (i n : ℕ) → n < i → nat_eq i n ≡ false
 apart i n h = step (nat_eq i n) refl
   where
     step : (b : Bool) → nat_eq i n ≡ b → nat_eq i n ≡ false
     step true e = let s = eqb-true i n e in absurd (omega (arith, s))
     step false e = e
 
-lower : (i n : ℕ) → i < n → nat_eq i n ≡ false
+pub lower : (i n : ℕ) → i < n → nat_eq i n ≡ false
 lower i n h = step (nat_eq i n) refl
   where
     step : (b : Bool) → nat_eq i n ≡ b → nat_eq i n ≡ false

@@ -1,3 +1,7 @@
 mod Weight
 mod Turns
 mod CallLemmas
+mod MomentLemmas
+mod Parts
+mod Shown
+mod Rests

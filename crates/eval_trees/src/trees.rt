@@ -2,10 +2,12 @@
 
 ghost use Rattle.std.specs.Prelude.{◌≡◌, ◌+◌, ◌-◌, true, List, [], length, map};
 ghost use Rattle.eval_rules.specs.Eval.{eval, eval_chain, eval_all, eval_arms, eval_step, eval_steps, turns, turn, called};
-ghost use Rattle.eval_parts.specs.Worlds.{Agrees};
-ghost use Rattle.eval_trees.specs.Inside.{here_now, calls_now};
+ghost use Rattle.eval_rules.specs.Moments.{moments, chain_moments, args_moments, arms_moments, step_moments, steps_moments, turns_moments, called_moments, Passing};
+ghost use Rattle.eval_parts.specs.Worlds.{Agrees, LeavesPassed};
+ghost use Rattle.eval_trees.specs.Inside.{here_now, calls_now, moments_now, turn_moments};
 ghost use Rattle.eval_trees.specs.Kinds.{is_act, is_bits, is_choice};
 ghost use Rattle.sail_values.specs.declared.value.Slot.{Slot};
+ghost use Rattle.sail_values.specs.declared.value.Value.{Value};
 ghost use Rattle.sail_values.specs.declared.value.Value.TheVariants as values;
 ghost use Rattle.sail_syntax.specs.View.{tree, trees, choice_of, cases_of, step_of, steps_of};
 ghost use Rattle.state_core.specs.State.{widths_of};
@@ -32,6 +34,7 @@ pub fn eval<'a>(
     world: &mut World,
 ) -> Result<Value, Stop>
     ensures value { Agrees result locals.new world.new (eval (here_now text.now) (calls_now text.now) (tree e.now) locals.old world.old) }
+    ensures passed { LeavesPassed result world.new world.old (moments (here_now text.now) (calls_now text.now) (moments_now text.now) (tree e.now) locals.old world.old) }
     ensures widths { widths_of world.new.state ≡ widths_of world.old.state }
 {
     match &e.node {
@@ -68,6 +71,7 @@ fn eval_bits<'a>(
 ) -> Result<Value, Stop>
     requires { is_bits (tree e.now) ≡ true }
     ensures value { Agrees result locals.new world.new (eval (here_now text.now) (calls_now text.now) (tree e.now) locals.old world.old) }
+    ensures passed { LeavesPassed result world.new world.old (moments (here_now text.now) (calls_now text.now) (moments_now text.now) (tree e.now) locals.old world.old) }
     ensures widths { widths_of world.new.state ≡ widths_of world.old.state }
 {
     match &e.node {
@@ -103,6 +107,7 @@ fn eval_choice<'a>(
 ) -> Result<Value, Stop>
     requires { is_choice (tree e.now) ≡ true }
     ensures value { Agrees result locals.new world.new (eval (here_now text.now) (calls_now text.now) (tree e.now) locals.old world.old) }
+    ensures passed { LeavesPassed result world.new world.old (moments (here_now text.now) (calls_now text.now) (moments_now text.now) (tree e.now) locals.old world.old) }
     ensures widths { widths_of world.new.state ≡ widths_of world.old.state }
 {
     match &e.node {
@@ -142,6 +147,7 @@ fn eval_act<'a>(
 ) -> Result<Value, Stop>
     requires { is_act (tree e.now) ≡ true }
     ensures value { Agrees result locals.new world.new (eval (here_now text.now) (calls_now text.now) (tree e.now) locals.old world.old) }
+    ensures passed { LeavesPassed result world.new world.old (moments (here_now text.now) (calls_now text.now) (moments_now text.now) (tree e.now) locals.old world.old) }
     ensures widths { widths_of world.new.state ≡ widths_of world.old.state }
 {
     match &e.node {
@@ -186,6 +192,7 @@ fn eval_chain<'a>(
     world: &mut World,
 ) -> Result<Value, Stop>
     ensures value { Agrees result locals.new world.new (eval_chain (here_now text.now) (calls_now text.now) (trees (map tree parts.now)) op locals.old world.old) }
+    ensures passed { LeavesPassed result world.new world.old (chain_moments (here_now text.now) (calls_now text.now) (moments_now text.now) (trees (map tree parts.now)) op locals.old world.old) }
     ensures widths { widths_of world.new.state ≡ widths_of world.old.state }
 {
     match parts {
@@ -214,6 +221,7 @@ fn eval_all<'a>(
     world: &mut World,
 ) -> Result<Items<Value>, Stop>
     ensures value { Agrees result locals.new world.new (eval_all (here_now text.now) (calls_now text.now) (trees (map tree args.now)) [] locals.old world.old) }
+    ensures passed { (call : List Value → Passing) → LeavesPassed result world.new world.old (args_moments (here_now text.now) (calls_now text.now) (moments_now text.now) (trees (map tree args.now)) [] call locals.old world.old) }
     ensures widths { widths_of world.new.state ≡ widths_of world.old.state }
 {
     let mut values = Items::new(alloc);
@@ -236,6 +244,7 @@ fn eval_arms<'a>(
     world: &mut World,
 ) -> Result<Value, Stop>
     ensures value { Agrees result locals.new world.new (eval_arms (here_now text.now) (calls_now text.now) (cases_of (map choice_of arms.now)) at value locals.old world.old) }
+    ensures passed { LeavesPassed result world.new world.old (arms_moments (here_now text.now) (calls_now text.now) (moments_now text.now) (cases_of (map choice_of arms.now)) value locals.old world.old) }
     ensures widths { widths_of world.new.state ≡ widths_of world.old.state }
 {
     for arm in arms {
@@ -263,6 +272,7 @@ fn eval_steps<'a>(
     world: &mut World,
 ) -> Result<Value, Stop>
     ensures value { Agrees result locals.new world.new (eval_steps (here_now text.now) (calls_now text.now) (steps_of (map step_of steps.now)) values.Unit locals.old world.old) }
+    ensures passed { LeavesPassed result world.new world.old (steps_moments (here_now text.now) (calls_now text.now) (moments_now text.now) (steps_of (map step_of steps.now)) locals.old world.old) }
     ensures widths { widths_of world.new.state ≡ widths_of world.old.state }
 {
     let mut last = Value::Unit;
@@ -282,6 +292,7 @@ fn eval_step<'a>(
     world: &mut World,
 ) -> Result<Value, Stop>
     ensures value { Agrees result locals.new world.new (eval_step (here_now text.now) (calls_now text.now) (step_of stmt.now) locals.old world.old) }
+    ensures passed { LeavesPassed result world.new world.old (step_moments (here_now text.now) (calls_now text.now) (moments_now text.now) (step_of stmt.now) locals.old world.old) }
     ensures widths { widths_of world.new.state ≡ widths_of world.old.state }
 {
     match stmt {
@@ -308,6 +319,7 @@ fn eval_turns<'a>(
     world: &mut World,
 ) -> Result<Value, Stop>
     ensures value { Agrees result locals.new world.new (turns (to + 1 - from) from (turn (here_now text.now) (calls_now text.now) var.now (tree body.now)) locals.old world.old) }
+    ensures passed { LeavesPassed result world.new world.old (turns_moments (to + 1 - from) from (turn (here_now text.now) (calls_now text.now) var.now (tree body.now)) (turn_moments (here_now text.now) (calls_now text.now) (moments_now text.now) var.now (tree body.now)) locals.old world.old) }
     ensures widths { widths_of world.new.state ≡ widths_of world.old.state }
 {
     for i in u64::from(from)..u64::from(to) + 1 {
@@ -330,6 +342,7 @@ pub fn call_thing<'a>(
     world: &mut World,
 ) -> Result<Value, Stop>
     ensures value { (locals : List Slot) → Agrees result locals world.new (called (here_now text.now) (calls_now text.now) thing at args.now locals world.old) }
+    ensures passed { (locals : List Slot) → LeavesPassed result world.new world.old (called_moments (here_now text.now) (moments_now text.now) thing args.now locals world.old) }
     ensures widths { widths_of world.new.state ≡ widths_of world.old.state }
 {
     match thing {
@@ -350,6 +363,7 @@ fn call_function<'a>(
     world: &mut World,
 ) -> Result<Value, Stop>
     ensures value { (locals : List Slot) → Agrees result locals world.new (calls_now text.now place args.now locals world.old) }
+    ensures passed { (locals : List Slot) → LeavesPassed result world.new world.old (moments_now text.now place args.now locals world.old) }
     ensures widths { widths_of world.new.state ≡ widths_of world.old.state }
 {
     if place >= text.defs.len() {
@@ -372,6 +386,7 @@ fn call_last<'a>(
     world: &mut World,
 ) -> Result<Value, Stop>
     ensures value { (locals : List Slot) → Agrees result locals world.new (calls_now text.now (length text.now.defs.now - 1) args.now locals world.old) }
+    ensures passed { (locals : List Slot) → LeavesPassed result world.new world.old (moments_now text.now (length text.now.defs.now - 1) args.now locals world.old) }
     ensures widths { widths_of world.new.state ≡ widths_of world.old.state }
 {
     let [earlier @ .., last] = text.defs else {

@@ -1,14 +1,14 @@
 -- Moments one after the other.
-use Rattle.std.proofs.Common.{◌≡◌, ℕ, suc, Bool, true, false, ◌||◌, List, [], ◌∷◌, ◌++◌, refl, sym, ap, ap₂, ◌∙◌, inl, inr, arith, append_assoc, append-nil}
-use Rattle.std.specs.Prelude.{Any}
+use Rattle.std.proofs.Common.{◌≡◌, ℕ, Bool, true, false, ◌||◌, List, [], ◌∷◌, ◌++◌, refl, sym, ap, ap₂, ◌∙◌, inl, inr, append_assoc, append-nil}
 use Rattle.std.specs.List.{list_any}
 use Rattle.std.proofs.lemmas.Bool.{or_parts}
-use Rattle.std.proofs.lemmas.List.{map-append, get_or_append_left, length-append}
+use Rattle.std.proofs.lemmas.List.{map-append}
 use Rattle.std.proofs.lemmas.List.Folds.{list_any-append}
 use Rattle.state_core.specs.State.{register_of, widths_of}
 use Rattle.state_core.specs.World.{World}
 use Rattle.state_core.specs.Laws.{Grows}
-use Rattle.eval_rules.specs.Moments.{passes, Moment, IsPassed}
+use Rattle.eval_rules.specs.Moments.{passes, Moment}
+use Rattle.eval_rules.proofs.Passed.{passed_at}
 use Rattle.eval_uses.specs.Uses.{is_read_of, is_write_of, is_access, dids, SameOutside, SameRest, MomentsKeep, Alike, SameOrKept, GrowAlike, ReachedAlike}
 
 -- ---- tests
@@ -20,10 +20,6 @@ or_first false b h = cc
 or_second : (a b : Bool) → b ≡ true → (a || b) ≡ true
 or_second true b h = refl
 or_second false b h = h
-
--- a moment at which one part is done
-abbrev pub passed_at : World → Moment
-passed_at w = record { did = passes; world = w }
 
 module _ (p : Moment → Bool) (ms ns : List Moment) (w : World) (silent : p (passed_at w) ≡ false) where
   tests : list_any p (ms ++ passed_at w ∷ ns) ≡ (list_any p ms || list_any p ns)
@@ -137,27 +133,6 @@ reach_join ms ns w v x y z u a b = record {
 pub dids_join : (ms ns os ps : List Moment) (x y : World) → dids os ≡ dids ms → dids ps ≡ dids ns → dids (os ++ passed_at y ∷ ps) ≡ dids (ms ++ passed_at x ∷ ns)
 dids_join ms ns os ps x y h k =
     map-append (λ m. m.did) os (passed_at y ∷ ps) ∙ ap₂ (λ l m. l ++ passes ∷ m) h k ∙ sym (map-append (λ m. m.did) ms (passed_at x ∷ ns))
-
--- ---- worlds that are passed
-
-any_there : {X : Type 0} (P : X → Type 0) (y : X) (l : List X) → Any P l → Any P (y ∷ l)
-any_there P y l a = (suc a.0, a.1, omega (arith, a.2), a.3, a.4)
-
-any_second : {X : Type 0} (P : X → Type 0) (l m : List X) → Any P m → Any P (l ++ m)
-any_second P [] m a = a
-any_second P (x ∷ l) m a = any_there P x (l ++ m) (any_second P l m a)
-
-any_first : {X : Type 0} (P : X → Type 0) (l m : List X) → Any P l → Any P (l ++ m)
-any_first P l m a = (a.0, a.1, omega (arith, a.2, length-append l m), get_or_append_left l m a.1 a.0 a.2 ∙ a.3, a.4)
-
-pub passed_first : (ms ns : List Moment) (w x : World) → IsPassed x w ms → IsPassed x w (ms ++ ns)
-passed_first ms ns w x (inl e) = inl e
-passed_first ms ns w x (inr a) = inr (any_first (λ m. m.world ≡ x) ms ns a)
-
-pub passed_second : (ms ns : List Moment) (w x y : World) → IsPassed y x ns → IsPassed y w (ms ++ passed_at x ∷ ns)
-passed_second ms ns w x y (inl e) = inr (any_second (λ m. m.world ≡ y) ms (passed_at x ∷ ns) (0, passed_at x, omega arith, refl, sym e))
-passed_second ms ns w x y (inr a) =
-    inr (any_second (λ m. m.world ≡ y) ms (passed_at x ∷ ns) (any_there (λ m. m.world ≡ y) (passed_at x) ns a))
 
 -- ---- nothing is changed, whatever the moments
 

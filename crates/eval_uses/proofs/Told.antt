@@ -9,7 +9,8 @@ use Rattle.sail_values.specs.declared.value.Value.TheVariants as value
 use Rattle.eval_rules.specs.Flow.{Out, gives, stops, Meaning, after, leaves}
 use Rattle.eval_rules.specs.Moments.{Moment, Passing, IsPassed, following}
 use Rattle.eval_uses.specs.Uses.{dids, world_in, MomentsKeep, Alike, ReachedAlike, OutcomesAlike, both_give, both_stop}
-use Rattle.eval_uses.proofs.Joins.{passed_at, keeps_still, reach_still, keeps_join, alike_first, alike_second, reach_join, dids_join, passed_first, passed_second}
+use Rattle.eval_rules.proofs.Passed.{passed_at, passed_first, passed_second}
+use Rattle.eval_uses.proofs.Joins.{keeps_still, reach_still, keeps_join, alike_first, alike_second, reach_join, dids_join}
 
 -- what holds of two evaluations, from a world and one that is alike
 pub record Paired {X : Type 0} (ms ns : List Moment) (w v : World) (one two : Out X) : Type 0 where

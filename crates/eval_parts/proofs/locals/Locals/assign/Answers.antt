@@ -1,11 +1,9 @@
-use Rattle.std.proofs.Common.{◌≡◌, ◌<◌, List, Some, None, true, false, length, get_or, reverse, sym, ap, ◌∙◌, arith}
+use Rattle.std.proofs.Common.{◌≡◌, ◌<◌, Some, None, length, reverse, sym, ap, ◌∙◌, arith}
 use Rattle.std.proofs.lemmas.List.{length-reverse}
 use Rattle.sail_values.specs.Slots.{put, has}
 use Rattle.sail_values.specs.declared.value.Local.TheVariants.{Is}
-use Rattle.eval_parts.specs.declared.locals.Kept.{Kept}
 use Rattle.eval_parts.specs.Newest.{newest_place}
-use Rattle.eval_parts.proofs.NewestLemmas.{IsPut, with_local, found_within, put_in_items, not_put}
-use Rattle.std.proofs.Math.ListN.{set}
+use Rattle.eval_parts.proofs.NewestLemmas.{found_within, put_in_items, not_put}
 use Rattle.eval_parts.proofs.locals.Locals.assign.Goals as goal
 
 pub index_mut-requires : goal.index_mut-requires

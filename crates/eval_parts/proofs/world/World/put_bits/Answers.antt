@@ -1,4 +1,4 @@
-use Rattle.std.proofs.Common.{◌≡◌, ◌∙◌, ap, sym, rules}
+use Rattle.std.proofs.Common.{◌≡◌, ◌∙◌, ap, sym}
 use Rattle.state_core.specs.State.{widths_of, register_of}
 use Rattle.eval_parts.proofs.Written.{same_widths}
 use Rattle.eval_parts.proofs.world.World.put_bits.Goals as goal
