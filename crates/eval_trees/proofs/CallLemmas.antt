@@ -1,5 +1,5 @@
 -- A function by the number of its definition.
-use Rattle.std.proofs.Common.{◌≡◌, ℕ, suc, ◌+◌, ◌-◌, ◌<◌, ◌≤◌, nat_eq, Bool, true, false, List, [], ◌∷◌, ◌++◌, length, get_or, take, drop, reverse, refl, sym, ap, ◌∙◌, subst, true≢false, arith}
+use Rattle.std.proofs.Common.{◌≡◌, ℕ, ◌+◌, ◌-◌, ◌<◌, ◌≤◌, nat_eq, Bool, true, false, List, [], ◌∷◌, ◌++◌, length, get_or, take, drop, reverse, refl, sym, ap, ◌∙◌, true≢false, arith}
 use Rattle.std.specs.Prelude.{map, if◌then◌else◌}
 use Rattle.std.proofs.lemmas.Bool.{eqb-true, eq-eqb}
 use Rattle.std.proofs.lemmas.List.{length-reverse, length-append, length-map, length-take, reverse-append, map-append, take-append-drop, drop_more, drop_all}
@@ -10,7 +10,7 @@ use Rattle.sail_values.specs.declared.value.Value.{Value}
 use Rattle.sail_values.specs.declared.value.Value.TheVariants as value
 use Rattle.state_core.specs.World.{World}
 use Rattle.sail_values.specs.declared.value.Slot.{Slot}
-use Rattle.eval_rules.specs.Flow.{Meaning, Out, gives, pure}
+use Rattle.eval_rules.specs.Flow.{Meaning, gives, pure}
 use Rattle.eval_rules.specs.Names.{Setting}
 use Rattle.eval_rules.specs.Eval.{calls_of, entered}
 use Rattle.eval_trees.specs.Inside.{calls_in, on_last, is_function_definition}

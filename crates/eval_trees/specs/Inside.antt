@@ -1,5 +1,5 @@
 -- What the code evaluates in, as the definitions have it.
-use Rattle.std.specs.Prelude.{ℕ, Bool, true, false, List, [], ◌∷◌, reverse, map}
+use Rattle.std.specs.Prelude.{ℕ, Bool, true, false, List, ◌∷◌, reverse, map}
 use Rattle.sail_syntax.specs.declared.definitions.Def.{Def}
 use Rattle.sail_syntax.specs.View.{definition_of, program_of}
 use Rattle.eval_rules.specs.Names as names
@@ -9,8 +9,8 @@ use Rattle.sail_values.specs.declared.value.Local.TheVariants as local
 use Rattle.sail_values.specs.declared.value.Value.{Value}
 use Rattle.sail_values.specs.declared.value.Value.TheVariants as value
 use Rattle.eval_rules.specs.Flow.{Meaning, pure}
-use Rattle.eval_rules.specs.Eval.{Calls, calls_of, setting_of, entered, bound}
-use Rattle.eval_rules.specs.Moments.{Passing, CallMoments, still, moments, moments_of_calls}
+use Rattle.eval_rules.specs.Eval.{Calls, calls_of, setting_of, entered}
+use Rattle.eval_rules.specs.Moments.{Passing, CallMoments, moments, moments_of_calls}
 use Rattle.eval_trees.specs.declared.setting.Setting.{Setting}
 
 -- what the names of the text stand for, and where the devices are
@@ -44,14 +44,6 @@ on_last here above (register x width at) vs = pure value.Unit
 on_last here above (enumeration x members at) vs = pure value.Unit
 on_last here above (signature x args result at) vs = pure value.Unit
 on_last here above (function f) vs = entered here above f.params f.body vs
-
--- the moments of it
-abbrev pub on_last_moments : names.Setting → Calls → CallMoments → Definition → List Value → Passing
-on_last_moments here above above_moments order vs = still
-on_last_moments here above above_moments (register x width at) vs = still
-on_last_moments here above above_moments (enumeration x members at) vs = still
-on_last_moments here above above_moments (signature x args result at) vs = still
-on_last_moments here above above_moments (function f) vs = λ locals world. moments here above above_moments f.body (bound f.params vs 0 []) world
 
 -- whether a definition is a function
 abbrev pub is_function_definition : Definition → Bool

@@ -1,1 +1,1 @@
-mod Ending
+pub mod Ending

@@ -7,6 +7,7 @@ use Rattle.sail_values.specs.declared.value.Stop.TheVariants as stop
 use Rattle.sail_values.specs.declared.value.Outcome.{Outcome}
 use Rattle.sail_values.specs.declared.value.Outcome.TheVariants as outcome
 use Rattle.eval_rules.specs.Flow.{Out, gives, stops}
+use Rattle.eval_rules.specs.Moments.{Moment, IsPassed}
 use Rattle.eval_words.specs.Instr.{Ended, whole, cut}
 
 -- how a call ends
@@ -23,7 +24,14 @@ Comes (outcome.Fault kind at) world out = out ≡ stops (fault kind at) world
 Comes outcome.NoAnswer world out = out ≡ stops lacks_answer world
 Comes outcome.NoMemory world out = Unit {0}
 
--- the same for an instruction
+-- after want of memory the world is one that these moments pass from the first world on
+abbrev pub EndsPassed : Outcome → World → World → List Moment → Type 0
+EndsPassed (outcome.Value v) world start ms = Unit {0}
+EndsPassed (outcome.Fault kind at) world start ms = Unit {0}
+EndsPassed outcome.NoAnswer world start ms = Unit {0}
+EndsPassed outcome.NoMemory world start ms = IsPassed world start ms
+
+-- the answer and the world are those of the end of an instruction; want of memory is free
 abbrev pub Ends : Outcome → World → Ended × World → Type 0
 Ends (outcome.Value v) world ended = ended ≡ (whole, world)
 Ends (outcome.Fault kind at) world ended = ended ≡ (cut (fault kind at), world)

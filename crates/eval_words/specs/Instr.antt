@@ -1,5 +1,5 @@
 -- What an instruction's word does: the call of `instr` on a word of four bytes, and of `instr16` on one of two.
-use Rattle.std.specs.Prelude.{ℕ, ◌*◌, nat_eq, if◌then◌else◌, codes, List, [], ◌∷◌}
+use Rattle.std.specs.Prelude.{◌*◌, nat_eq, if◌then◌else◌, codes, List, [], ◌∷◌}
 use Rattle.sail_syntax.specs.Tree.{Text}
 use Rattle.sail_syntax.specs.Program.{Definition}
 use Rattle.state_core.specs.World.{World, Halt}

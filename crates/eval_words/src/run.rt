@@ -2,8 +2,9 @@
 
 ghost use Rattle.std.specs.Prelude.{◌≡◌, ◌*◌, ◌<◌, ◌^◌};
 ghost use Rattle.eval_rules.specs.Eval.{call_of};
-ghost use Rattle.eval_words.specs.Agrees.{Comes, Ends, outcome_of};
-ghost use Rattle.eval_words.specs.Instr.{instr_of, name_of_word, word_value};
+ghost use Rattle.eval_rules.specs.Moments.{moments_of};
+ghost use Rattle.eval_words.specs.Agrees.{Comes, Ends, EndsPassed, outcome_of};
+ghost use Rattle.eval_words.specs.Instr.{instr_of, moments_of_instr, name_of_word, word_value};
 ghost use Rattle.sail_syntax.specs.View.{program_of};
 ghost use Rattle.state_core.specs.State.{widths_of};
 ghost use Rattle.state_core.specs.Word.{IsWord};
@@ -39,6 +40,7 @@ fn run(
     world: &mut World,
 ) -> Outcome
     ensures done { Comes result world.new (call_of (program_of typed.now) devs.now.ranges name.now 0 args.now world.old) }
+    ensures passed { EndsPassed result world.new world.old (moments_of (program_of typed.now) devs.now.ranges name.now args.now world.old) }
     ensures widths { widths_of world.new.state ≡ widths_of world.old.state }
 {
     let text = Setting {
@@ -53,7 +55,7 @@ fn run(
 
 /// The call of a function of the program, by its name, with these arguments: what its body means where the parameters
 /// have them. A fault comes from where the meaning has one, with its place in bytes of the text. After a fault, and where no answer of a device is
-/// left, the world is the one that was reached.
+/// left, the world is the one that was reached. After want of memory it is one that the call passes.
 pub fn call(
     alloc: Global,
     typed: &Typed,
@@ -63,6 +65,7 @@ pub fn call(
     world: &mut World,
 ) -> Outcome
     ensures done { Comes result world.new (call_of (program_of typed.now) devs.now.ranges name.now 0 args.now world.old) }
+    ensures passed { EndsPassed result world.new world.old (moments_of (program_of typed.now) devs.now.ranges name.now args.now world.old) }
     ensures widths { widths_of world.new.state ≡ widths_of world.old.state }
 {
     run(alloc, typed, name.bytes(), args, devs, world)
@@ -90,7 +93,8 @@ fn word_value(word: Word) -> Value
     })
 }
 
-/// What an instruction's word does: the call of `instr` on a word of four bytes, and of `instr16` on one of two.
+/// What an instruction's word does: the call of `instr` on a word of four bytes, and of `instr16` on one of two. After want of memory the world is
+/// one that the instruction passes.
 pub fn execute(
     alloc: Global,
     typed: &Typed,
@@ -100,6 +104,7 @@ pub fn execute(
 ) -> Outcome
     requires { IsWord word }
     ensures done { Ends result world.new (instr_of (program_of typed.now) devs.now.ranges word world.old) }
+    ensures passed { EndsPassed result world.new world.old (moments_of_instr (program_of typed.now) devs.now.ranges word world.old) }
     ensures widths { widths_of world.new.state ≡ widths_of world.old.state }
 {
     let argument = word_value(word);

@@ -1,3 +1,4 @@
+mod Left
 mod Pc
 mod Runs
 mod Steps

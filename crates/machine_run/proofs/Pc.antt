@@ -1,5 +1,5 @@
 -- The register PC is there, and has 64 bits.
-use Rattle.std.proofs.Common.{◌≡◌, ℕ, zero, suc, ◌<◌, Bool, true, false, ◌&&◌, List, [], ◌∷◌, Some, length, get_or, map, slice_get, nat_eq, refl, sym, ap, ◌∙◌, subst, ◌^◌, arith}
+use Rattle.std.proofs.Common.{◌≡◌, ℕ, zero, suc, ◌<◌, List, [], ◌∷◌, Some, length, get_or, map, slice_get, nat_eq, refl, sym, ap, ◌∙◌, subst, ◌^◌, arith}
 use Rattle.std.specs.Prelude.{bytes_eq, codes, slice_index_or}
 use Rattle.std.proofs.lemmas.Option.{get_or_from_slice_get, slice_get_within}
 use Rattle.std.specs.List.{position}

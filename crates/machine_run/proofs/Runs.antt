@@ -20,7 +20,8 @@ module _ (m : Machine) (ranges : List Range) (exits : List ℕ) where
       let e : n - 0 ≡ n = omega arith in
       subst (λ k. IsRest (run m ranges exits n w) 0 (run m ranges exits k w)) (sym e) (record { done_is = (omega arith); stop_is = refl; world_is = refl })
 
-  more : (n : ℕ) (w x : World) (e : Ended) (o : Option ℕ) → step m ranges w ≡ (e, x) → exit_of m exits x ≡ o
+  -- a run by its first step
+  pub more : (n : ℕ) (w x : World) (e : Ended) (o : Option ℕ) → step m ranges w ≡ (e, x) → exit_of m exits x ≡ o
       → run m ranges exits (suc n) w ≡ stepped e x (step_uses m ranges w) o (run m ranges exits n x)
   more n w x e o is out =
       ap (λ (s : Ended × World). stepped s.0 s.1 (step_uses m ranges w) (exit_of m exits s.1) (run m ranges exits n s.1)) is

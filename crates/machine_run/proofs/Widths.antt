@@ -1,7 +1,6 @@
 -- The registers of a typed program have widths from 1 to 128.
-use Rattle.std.proofs.Common.{◌≡◌, ℕ, ◌+◌, List, [], ◌∷◌, None, refl, sym, ap, ◌∙◌, All, map}
+use Rattle.std.proofs.Common.{◌≡◌, ℕ, ◌+◌, List, [], ◌∷◌, None, refl, ap, All, map}
 use Rattle.std.proofs.lemmas.List.Elements.{All-cons, All-nil}
-use Rattle.bv_bits.specs.declared.Bits.{Bits}
 use Rattle.bv_bits.specs.Bits.{IsWidth, width_of}
 use Rattle.sail_syntax.specs.Program.{Definition, order, register, enumeration, signature, function, registers_of}
 use Rattle.state_core.specs.State.{zero_of}

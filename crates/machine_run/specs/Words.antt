@@ -1,5 +1,5 @@
 -- The word at an address: four bytes, or, where there are words of two bytes, two bytes and two more where the lowest two bits are 11.
-use Rattle.std.specs.Prelude.{ℕ, ◌+◌, ◌*◌, ◌%◌, ◌^◌, nat_eq, nat_lt, Bool, true, false, if◌then◌else◌, List, Option, Some, None, option_and_then}
+use Rattle.std.specs.Prelude.{ℕ, ◌+◌, ◌*◌, ◌%◌, ◌^◌, nat_eq, nat_lt, Bool, true, false, if◌then◌else◌, List, Option, Some, option_and_then}
 use Rattle.std.specs.Option.{option_map}
 use Rattle.state_core.specs.declared.kinds.FaultKind.TheVariants as kind
 use Rattle.state_core.specs.declared.kinds.Range.{Range}

@@ -1,7 +1,8 @@
 //! The fetch of a word.
 
-ghost use Rattle.std.specs.Prelude.{◌≡◌, ◌<◌, ◌^◌, IfOk};
-ghost use Rattle.eval_parts.specs.Worlds.{Accesses};
+ghost use Rattle.std.specs.Prelude.{◌≡◌, ◌<◌, ◌^◌, true, IfOk};
+ghost use Rattle.eval_parts.specs.Worlds.{Accesses, LeavesPassed};
+ghost use Rattle.machine_run.specs.Passed.{fetch_moments, second_moments, word_moments};
 ghost use Rattle.machine_run.specs.Words as spec;
 ghost use Rattle.state_core.specs.Memory.{fetch};
 ghost use Rattle.state_core.specs.State.{widths_of};
@@ -14,6 +15,7 @@ use state_core::{DevMap, FaultKind, Word};
 /// A word of four bytes that is fetched at once.
 fn fetch_once(devs: &DevMap, addr: u64, at: usize, world: &mut World) -> Result<Word, Stop>
     ensures value { Accesses (λ w. w) at result world.new (spec.at_once (fetch devs.now.ranges addr 4 world.old)) }
+    ensures passed { LeavesPassed result world.new world.old (fetch_moments devs.now.ranges addr 4 world.old) }
     ensures word { IfOk result IsWord }
     ensures widths { widths_of world.new.state ≡ widths_of world.old.state }
 {
@@ -32,6 +34,7 @@ fn fetch_second(
 ) -> Result<Word, Stop>
     requires low { low < 2 ^ 16 }
     ensures value { Accesses (λ w. w) at result world.new (spec.joined low (fetch devs.now.ranges addr 2 world.old)) }
+    ensures passed { LeavesPassed result world.new world.old (fetch_moments devs.now.ranges addr 2 world.old) }
     ensures word { IfOk result IsWord }
     ensures widths { widths_of world.new.state ≡ widths_of world.old.state }
 {
@@ -53,6 +56,7 @@ fn fetch_rest(
 ) -> Result<Word, Stop>
     requires low { low < 2 ^ 16 }
     ensures value { Accesses (λ w. w) at result world.new (spec.second devs.now.ranges addr low world.old) }
+    ensures passed { LeavesPassed result world.new world.old (second_moments devs.now.ranges addr low world.old) }
     ensures word { IfOk result IsWord }
     ensures widths { widths_of world.new.state ≡ widths_of world.old.state }
 {
@@ -74,6 +78,7 @@ fn fetch_rest(
 /// A word that is fetched two bytes at a time.
 fn fetch_parts(devs: &DevMap, addr: u64, at: usize, world: &mut World) -> Result<Word, Stop>
     ensures value { Accesses (λ w. w) at result world.new (spec.in_parts devs.now.ranges addr (fetch devs.now.ranges addr 2 world.old)) }
+    ensures passed { LeavesPassed result world.new world.old (word_moments true devs.now.ranges addr world.old) }
     ensures word { IfOk result IsWord }
     ensures widths { widths_of world.new.state ≡ widths_of world.old.state }
 {
@@ -83,7 +88,7 @@ fn fetch_parts(devs: &DevMap, addr: u64, at: usize, world: &mut World) -> Result
 }
 
 /// The word at an address: four bytes, or, where there are words of two bytes, two bytes and two more where their lowest two bits are 11. A fault
-/// stands at the place that is given. Each fetch is noted.
+/// stands at the place that is given. Each fetch is noted. After want of memory the world is one that the fetches pass.
 pub fn fetch_word(
     devs: &DevMap,
     short: bool,
@@ -92,6 +97,7 @@ pub fn fetch_word(
     world: &mut World,
 ) -> Result<Word, Stop>
     ensures value { Accesses (λ w. w) at result world.new (spec.fetch_word short devs.now.ranges addr world.old) }
+    ensures passed { LeavesPassed result world.new world.old (word_moments short devs.now.ranges addr world.old) }
     ensures word { IfOk result IsWord }
     ensures widths { widths_of world.new.state ≡ widths_of world.old.state }
 {

@@ -3,10 +3,11 @@
 ghost use Rattle.std.specs.Prelude.{◌≡◌, ◌==◌};
 ghost use Rattle.std.specs.List.{position};
 ghost use Rattle.state_core.specs.State.{widths_of};
-ghost use Rattle.eval_words.specs.Agrees.{Ends};
+ghost use Rattle.eval_words.specs.Agrees.{Ends, EndsPassed};
 ghost use Rattle.sail_syntax.specs.View.{program_of};
 ghost use Rattle.machine_run.specs.Answers.{IsRan};
 ghost use Rattle.machine_run.specs.Machine as spec;
+ghost use Rattle.machine_run.specs.Passed.{step_moments, IfNoMemory, IsLeft};
 ghost use Rattle.machine_run.specs.Program.{machine_of, widths_in, has_short, instr_place};
 
 use crate::fetching::fetch_word;
@@ -76,10 +77,11 @@ fn instr_place(typed: &Typed) -> usize
 ///
 /// A fetch that passes the last address is the fault `NoByte`, else one that touches a device range is `BadDevice`, else one with
 /// a byte that isn't there is `NoByte`, each at the place of the definition of `instr`. After a fault, and where an answer
-/// is missing, the world is the one that was reached. The world has the text's registers.
+/// is missing, the world is the one that was reached; after want of memory it is one that the step passes. The world has the text's registers.
 pub fn step(alloc: Global, typed: &Typed, devs: &DevMap, world: &mut World) -> Outcome
     requires { widths_of world.old.state ≡ widths_in (program_of typed.now) }
     ensures done { Ends result world.new (spec.step (machine_of (program_of typed.now)) devs.now.ranges world.old) }
+    ensures passed { EndsPassed result world.new world.old (step_moments (program_of typed.now) devs.now.ranges world.old) }
     ensures widths { widths_of world.new.state ≡ widths_of world.old.state }
 {
     let pc = pc_value(typed, world);
@@ -101,8 +103,8 @@ fn exit_of(typed: &Typed, exits: &[u64], world: &World) -> Option<usize>
 /// At most `n` steps, and fewer up to the first stop.
 ///
 /// After each whole step the exits are tested, in order; they aren't tested before the first step. After a fault, and where an
-/// answer is missing, the world is the one that was reached. After want of memory too `done` steps of the run are whole. The
-/// world has the text's registers.
+/// answer is missing, the world is the one that was reached. After want of memory too `done` steps of the run are whole, without an exit, and
+/// the world is one that the next step passes. The world has the text's registers.
 pub fn run(
     alloc: Global,
     typed: &Typed,
@@ -114,6 +116,7 @@ pub fn run(
     requires { widths_of world.old.state ≡ widths_in (program_of typed.now) }
     ensures ran { IsRan result.done result.stop world.new
         (spec.run (machine_of (program_of typed.now)) devs.now.ranges exits.now n world.old) }
+    ensures left { IfNoMemory result.stop (IsLeft (program_of typed.now) devs.now.ranges exits.now n result.done world.old world.new) }
     ensures widths { widths_of world.new.state ≡ widths_of world.old.state }
 {
     for done in 0..n {

@@ -1,4 +1,4 @@
-use Rattle.std.proofs.Common.{◌≡◌, sym, ap, ◌∙◌, subst, map, List, ℕ, All}
+use Rattle.std.proofs.Common.{◌≡◌, sym, ap, ◌∙◌, subst, map, All}
 use Rattle.bv_bits.specs.Bits.{IsWidth}
 use Rattle.sail_syntax.specs.View.{program_of}
 use Rattle.machine_run.specs.Program.{width_in, widths_in}
