@@ -52,7 +52,7 @@ new_after before [] ys h = subst (λ es. AreNew es ys) (sym (append-nil before))
 new_after before (x ∷ xs) ys h = subst (λ es. AreNew es ys) (append_assoc before (x.entry ∷ []) (map entry_of xs)) (new_after (before ++ x.entry ∷ []) xs ys h.1)
 
 -- what a function's name stands for
-abbrev function_item : Function → ℕ → Option Item
+abbrev pub function_item : Function → ℕ → Option Item
 function_item f i = Some (item.Function (slots_of f.params) (Some f.result) (i + 1))
 
 new_found : (before : List Entry) (ds : List Definition) (i n : ℕ) (f : Function) → AreNew before (declared_from ds i) → slice_get ds n ≡ Some (function f) → find f.name (before ++ map entry_of (declared_from ds i)) ≡ function_item f (i + n)
@@ -88,11 +88,16 @@ module _ (defs : List Definition) (ranges : List Range) (calls : Calls) (kept : 
   named_call i f at vs world e h s (Some (thing.Member of n)) k = absurd k
   named_call i f at vs world e h s None k = absurd k
 
+-- what evaluation finds of the name of a function of the program
+pub function_found : (defs : List Definition) (i : ℕ) (f : Function) → IsTypedProgram defs → slice_get defs i ≡ Some (function f) → AsFound defs (function_item f i) (find_thing f.name (things_of defs))
+function_found defs i f p e =
+    let z : 0 + i ≡ i = omega arith in
+    subst (λ o. AsFound defs o (find_thing f.name (things_of defs))) (new_found prelude defs 0 i f p.names e ∙ ap (function_item f) z) (found defs f.name)
+
 pub calls_keep_types : ((ranges : List Range) → Accesses ranges) → CallsKeepTypes
 calls_keep_types accesses defs ranges i f at vs world p e h s =
-    let z : 0 + i ≡ i = omega arith in
     named_call defs ranges (calls_of (setting_of defs ranges) (reverse defs)) (all_kept defs ranges (accesses ranges) p.definitions) i f at vs world e h s (find_thing f.name (things_of defs))
-    (subst (λ o. AsFound defs o (find_thing f.name (things_of defs))) (new_found prelude defs 0 i f p.names e ∙ ap (function_item f) z) (found defs f.name))
+    (function_found defs i f p e)
 
 -- ---- words
 
@@ -105,7 +110,7 @@ pub record Numbered (defs : List Definition) (x : Text) (f : Function) : Type 0 
 one_more : (d : Definition) (ds : List Definition) (x : Text) (f : Function) → Numbered ds x f → Numbered (d ∷ ds) x f
 one_more d ds x f h = record { number = suc h.number; is = h.is; name = h.name }
 
-numbered : (ds : List Definition) (x : Text) (f : Function) → function_of ds x ≡ Some f → Numbered ds x f
+pub numbered : (ds : List Definition) (x : Text) (f : Function) → function_of ds x ≡ Some f → Numbered ds x f
 numbered [] x f h = absurd cc
 numbered (order ∷ ds) x f h = one_more order ds x f (numbered ds x f h)
 numbered (register y w at ∷ ds) x f h = one_more (register y w at) ds x f (numbered ds x f h)
@@ -120,7 +125,7 @@ numbered (function d ∷ ds) x f h = step (bytes_eq d.name x) refl (numbered ds 
     step true p r k = let e = some_is d f k in record { number = zero; is = ap (λ f. Some (function f)) e; name = ap (λ f. f.name) (sym e) ∙ (bytes_eq-Decides d.name x).0 p }
     step false p r k = one_more (function d) ds x f (r k)
 
-word_fits : (defs : List Definition) (w : ℕ) (b : Bits) (ps : List Param) → takes_word w ps ≡ true → IsBits b → b.width ≡ w → AreOfTypes defs (value.Bits b ∷ []) ps
+pub word_fits : (defs : List Definition) (w : ℕ) (b : Bits) (ps : List Param) → takes_word w ps ≡ true → IsBits b → b.width ≡ w → AreOfTypes defs (value.Bits b ∷ []) ps
 word_fits defs w b [] h f e = absurd cc
 word_fits defs w b (p ∷ []) h f e = ((f, same_is p.ty (ty.Bits w) h ∙ ap ty.Bits (sym e)), tt)
 word_fits defs w b (p ∷ q ∷ ps) h f e = absurd cc

@@ -141,14 +141,14 @@ chosen : {X : Type 0} (P : Got X → Type 0) (b : Bool) (x y : Got X) → P x �
 chosen P true x y px py = px
 chosen P false x y px py = py
 
-abbrev SameRegisters : {X : Type 0} → World → Got X → Type 0
+abbrev pub SameRegisters : {X : Type 0} → World → Got X → Type 0
 SameRegisters w got = (reached got).state.registers ≡ w.state.registers
 
 written_registers : (o : Option Memory) (w : World) → SameRegisters w (or_no_place o w)
 written_registers (Some m) w = refl
 written_registers None w = refl
 
-store_registers : (ranges : List Range) (at n x : ℕ) (w : World) → SameRegisters w (store ranges at n x w)
+pub store_registers : (ranges : List Range) (at n x : ℕ) (w : World) → SameRegisters w (store ranges at n x w)
 unfolding store
 store_registers ranges at n x w =
     let noted = logged access.Write at n w in
@@ -168,7 +168,7 @@ module _ (defs : List Definition) (ranges : List Range) (accesses : Accesses ran
   read_ends n at locals w (faults k world) p q r h s = subst (StateFits defs) (sym r.state) s
   read_ends n at locals w (lacks world) p q r h s = subst (StateFits defs) (sym r.state) s
 
-  state_stored : (w : World) (got : Got Nothing) → IsStored w got → SameRegisters w got → StateFits defs w.state → StateFits defs (reached got).state
+  pub state_stored : (w : World) (got : Got Nothing) → IsStored w got → SameRegisters w got → StateFits defs w.state → StateFits defs (reached got).state
   state_stored w got r e s = record { values = r.values s.values; widths = ap (map width_of) e ∙ s.widths }
 
   write_ends : (at : ℕ) (locals : List Slot) (w : World) (got : Got Nothing) → LocalsFit defs locals scope → StateFits defs (reached got).state

@@ -224,7 +224,7 @@ module _ (defs : List Definition) (ranges : List Range) (accesses : Accesses ran
 
     -- ---- arguments
 
-    args_kept : (args : Trees) (ps : List Asked) (r : Option Ty) (scope : List Typed) (t : Ty) → ArgsHave globals here args ps r scope t → Keeps defs scope (λ vs. ArgsFit defs ps r vs t) (eval_all setting calls args [])
+    pub args_kept : (args : Trees) (ps : List Asked) (r : Option Ty) (scope : List Typed) (t : Ty) → ArgsHave globals here args ps r scope t → Keeps defs scope (λ vs. ArgsFit defs ps r vs t) (eval_all setting calls args [])
     args_kept none [] r scope t h = pure_of defs scope (λ vs. ArgsFit defs [] r vs t) [] h
     args_kept none (q ∷ qs) r scope t h = absurd h
     args_kept (some a rest) [] r scope t h = absurd h

@@ -65,7 +65,7 @@ some_ty : (t u : Ty) → Some t ≡ Some u → t ≡ u
 some_ty t u h = cc
 
 module _ (defs : List Definition) where
-  register_fits : (s : State) (r w : ℕ) → StateFits defs s → slice_get (map declared_width (registers_of defs)) r ≡ Some w → IsRegister (register_of s r) w
+  pub register_fits : (s : State) (r w : ℕ) → StateFits defs s → slice_get (map declared_width (registers_of defs)) r ≡ Some w → IsRegister (register_of s r) w
   register_fits s r w f e = register_in s.registers r w (record { width = 0; value = 0 }) f.values.registers (ap (λ ws. slice_get ws r) f.widths ∙ e)
 
   with_fits : (r : ℕ) (b : Bits) (s : State) → StateFits defs s → StateFits defs (with_bits r b s)

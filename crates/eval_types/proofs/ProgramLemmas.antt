@@ -43,7 +43,7 @@ pub record TypedAt (globals : List Entry) (f : Function) (i : ℕ) : Type 0 wher
   pub above : List Height
   pub typed : IsTypedFunction globals f above i
 
-typed_at : (globals : List Entry) (ds : List Definition) (above : List Height) (i n : ℕ) (f : Function) → AreTypedDefinitions globals ds above i → slice_get ds n ≡ Some (function f) → TypedAt globals f (i + n)
+pub typed_at : (globals : List Entry) (ds : List Definition) (above : List Height) (i n : ℕ) (f : Function) → AreTypedDefinitions globals ds above i → slice_get ds n ≡ Some (function f) → TypedAt globals f (i + n)
 typed_at globals [] above i n f h e = absurd cc
 typed_at globals (d ∷ ds) above i zero f h e =
     let t = subst (λ d. IsTypedDefinition globals d above i ds) (some_definition d (function f) e) h.0 in
@@ -56,13 +56,13 @@ seam : {X : Type 0} (xs : List X) (x : X) (ys : List X) → slice_get (xs ++ x �
 seam [] x ys = refl
 seam (z ∷ xs) x ys = seam xs x ys
 
-reverse_cons : {X : Type 0} (x : X) (xs ys : List X) → reverse (x ∷ xs) ++ ys ≡ reverse xs ++ x ∷ ys
+pub reverse_cons : {X : Type 0} (x : X) (xs ys : List X) → reverse (x ∷ xs) ++ ys ≡ reverse xs ++ x ∷ ys
 reverse_cons x xs ys = ap (λ zs. zs ++ ys) (reverse-append (x ∷ []) xs) ∙ append_assoc (reverse xs) (x ∷ []) ys
 
 module _ (defs : List Definition) where
   -- ---- the parameters
 
-  bound_fits : (ps : List Param) (all vs : List Value) (i : ℕ) (scope : List Typed) (locals : List Slot) → IsTail defs all vs i → AreOfTypes defs vs ps → LocalsFit defs locals scope → LocalsFit defs (bound ps all i locals) (locals_of ps scope)
+  pub bound_fits : (ps : List Param) (all vs : List Value) (i : ℕ) (scope : List Typed) (locals : List Slot) → IsTail defs all vs i → AreOfTypes defs vs ps → LocalsFit defs locals scope → LocalsFit defs (bound ps all i locals) (locals_of ps scope)
   bound_fits [] all [] i scope locals t h l = l
   bound_fits [] all (v ∷ vs) i scope locals t h l = absurd h
   bound_fits (p ∷ ps) all [] i scope locals t h l = absurd h
@@ -78,7 +78,7 @@ module _ (defs : List Definition) where
   -- ---- one function after another
 
   -- a function that isn't the last definition stands in front of it
-  in_front : (n i : ℕ) (d : Definition) (f : Function) → i + 1 ≤ suc n → slice_get defs n ≡ Some d → slice_get defs i ≡ Some (function f) → (Some d ≡ Some (function f) → ⊥) → i + 1 ≤ n
+  pub in_front : (n i : ℕ) (d : Definition) (f : Function) → i + 1 ≤ suc n → slice_get defs n ≡ Some d → slice_get defs i ≡ Some (function f) → (Some d ≡ Some (function f) → ⊥) → i + 1 ≤ n
   in_front n i d f l e g other = step (nat_eq i n) refl
     where
       step : (b : Bool) → nat_eq i n ≡ b → i + 1 ≤ n
@@ -90,7 +90,7 @@ module _ (defs : List Definition) where
     abbrev setting : Setting
     setting = record { things = things; ranges = ranges }
 
-    last_is : (d : Definition) (rev rest : List Definition) → defs ≡ reverse (d ∷ rev) ++ rest → slice_get defs (length rev) ≡ Some d
+    pub last_is : (d : Definition) (rev rest : List Definition) → defs ≡ reverse (d ∷ rev) ++ rest → slice_get defs (length rev) ≡ Some d
     last_is d rev rest e = ap (λ ds. slice_get ds (length rev)) (e ∙ reverse_cons d rev rest) ∙ ap (slice_get (reverse rev ++ d ∷ rest)) (sym (length-reverse rev)) ∙ seam (reverse rev) d rest
 
     -- the last of some functions, where those above it keep types

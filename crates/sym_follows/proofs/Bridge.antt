@@ -1,5 +1,5 @@
 -- The outcomes that follow the trace of a tree, by where the tree's paths come to.
-use Rattle.std.proofs.Common.{◌≡◌, ℕ, suc, ◌+◌, ◌^◌, ◌<◌, ◌≤◌, Bool, true, false, List, [], ◌∷◌, ◌++◌, map, length, refl, sym, ap, ap₂, ◌∙◌, append-nil, arith}
+use Rattle.std.proofs.Common.{◌≡◌, ℕ, suc, ◌+◌, ◌^◌, ◌<◌, ◌≤◌, Bool, true, false, List, ◌++◌, map, length, refl, sym, ap, ap₂, ◌∙◌, append-nil, arith}
 use Rattle.std.proofs.lemmas.List.{map-append}
 use Rattle.state_core.specs.declared.kinds.Range.{Range}
 use Rattle.state_core.specs.World.{Got, gets, faults, lacks}
@@ -9,7 +9,7 @@ use Rattle.term_tree.specs.Terms.{same_bits}
 use Rattle.trace_plain.specs.Trace.{Event, read_reg, write_reg, read_mem, write_mem, assume, need, assume_reg, Trace, trace, size}
 use Rattle.trace_plain.specs.Following.{Path, whole, Outcome, ended, Step, goes, halts, blocked, act, step_if, is_one, value_on, binds_read, goes_behind, after_step, outcomes}
 use Rattle.sym_rules.specs.Trees.{SymTree, leaf, naming, on, split, fails, with_first, two_cases, traced}
-use Rattle.sym_follows.proofs.Trees.{Arrival, comes_to, ends_at, behind_step, OfNext, arrivals, IsShort, Short}
+use Rattle.sym_follows.proofs.Trees.{Arrival, comes_to, ends_at, behind_step, OfNext, arrivals, Short}
 
 -- the outcome of where a path comes to: a leaf is the end of a whole step
 abbrev pub final : {L : Type 0} → Arrival L → Outcome

@@ -1,10 +1,9 @@
 -- Values of arguments, parameters, and choices, in an evaluation and its tree.
-use Rattle.std.proofs.Common.{◌≡◌, ℕ, zero, suc, ◌+◌, Bool, true, false, not, List, [], ◌∷◌, ◌++◌, Option, Some, None, nat_eq, refl, sym, ap, ap₂, ◌∙◌, subst, subst₂}
-use Rattle.std.specs.Prelude.{⊤, if◌then◌else◌, slice_get, map}
-use Rattle.bv_bits.specs.declared.Bits.{Bits}
+use Rattle.std.proofs.Common.{◌≡◌, ℕ, zero, suc, ◌+◌, Bool, true, false, not, List, [], ◌∷◌, ◌++◌, nat_eq, refl, ap, ap₂, ◌∙◌, subst}
+use Rattle.std.specs.Prelude.{⊤, if◌then◌else◌, map}
 use Rattle.state_core.specs.declared.kinds.Range.{Range}
 use Rattle.state_core.specs.World.{World}
-use Rattle.term_tree.specs.Terms.{Text, Tree}
+use Rattle.term_tree.specs.Terms.{Tree}
 use Rattle.term_tree.specs.Values.{Values, value}
 use Rattle.term_rules.specs.Shapes.{literal_of}
 use Rattle.trace_plain.specs.Following.{Path}
@@ -15,11 +14,11 @@ use Rattle.sail_values.specs.declared.value.Slot.{Slot}
 use Rattle.sail_values.specs.declared.value.Local.TheVariants as local
 use Rattle.sail_values.specs.declared.value.Value.{Value}
 use Rattle.sail_values.specs.declared.value.Value.TheVariants as concrete
-use Rattle.sail_values.specs.Values.{or_unit, nth, is_true, decides}
-use Rattle.eval_rules.specs.Flow.{Out, gives, Meaning, pure}
+use Rattle.sail_values.specs.Values.{nth, is_true, decides}
+use Rattle.eval_rules.specs.Flow.{gives, Meaning, pure}
 use Rattle.eval_rules.specs.Eval.{bound}
-use Rattle.sym_rules.specs.Values.{SymValue, sym_unit, sym_truth, sym_bits, sym_member, sym_or_unit, sym_is, SymSlot, SymPath, SymSetting}
-use Rattle.sym_rules.specs.Trees.{SymTree, Leaf, SymMeaning, told, forked}
+use Rattle.sym_rules.specs.Values.{SymValue, sym_unit, sym_truth, sym_bits, sym_member, SymSlot, SymPath, SymSetting}
+use Rattle.sym_rules.specs.Trees.{SymMeaning, told, forked}
 use Rattle.sym_rules.specs.Operators.{sym_nth, known_truth, unless_decided, sym_choose}
 use Rattle.sym_rules.specs.Sym.{sym_bound}
 use Rattle.sym_follows.proofs.Values.{value_at, IsTypedValue, Is, BitIs, known_is}

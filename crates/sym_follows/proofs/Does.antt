@@ -1,20 +1,19 @@
 -- A tree does what an evaluation does: just one of its paths is gone, and it comes to the same.
-use Rattle.std.proofs.Common.{◌≡◌, ℕ, zero, suc, ◌+◌, ◌-◌, ◌<◌, ◌≤◌, Bool, true, false, not, List, [], ◌∷◌, ◌++◌, length, drop, Option, Some, None, nat_eq, refl, sym, ap, ap₂, ◌∙◌, subst, arith, append-nil, append_assoc}
+use Rattle.std.proofs.Common.{◌≡◌, ℕ, zero, suc, ◌-◌, Bool, true, false, not, List, [], ◌∷◌, ◌++◌, length, drop, nat_eq, refl, sym, ap, ap₂, ◌∙◌, subst, arith, append-nil, append_assoc}
 use Rattle.std.specs.Prelude.{⊤, if◌then◌else◌}
 use Rattle.bv_bits.specs.declared.Bits.{Bits}
 use Rattle.bv_bits.specs.declared.Op.TheVariants as op
 use Rattle.state_core.specs.declared.kinds.FaultKind.TheVariants as kind
 use Rattle.state_core.specs.declared.kinds.Range.{Range}
-use Rattle.state_core.specs.World.{World, Halt, fault}
+use Rattle.state_core.specs.World.{World, Halt}
 use Rattle.state_core.specs.Laws.{Grows}
 use Rattle.term_tree.specs.Terms.{Text, Tree, lit, var, one, two, three, sel}
-use Rattle.term_tree.specs.Values.{Values, value}
+use Rattle.term_tree.specs.Values.{Values, IsValues}
 use Rattle.term_rules.specs.Shapes.{literal_of}
 use Rattle.term_make.specs.Making.{make}
 use Rattle.term_arena.specs.Said.{Answer, Answers, Refuses}
 use Rattle.trace_plain.specs.declared.trace.FailKind.{FailKind}
 use Rattle.trace_plain.specs.declared.trace.FailKind.TheVariants as failure
-use Rattle.trace_plain.specs.Trace.{assume}
 use Rattle.trace_plain.specs.Following.{Path, Ending, whole, failed, faulted, unanswered, Outcome, ended, goes, blocked, halts, step_if, is_one, value_on}
 use Rattle.sail_values.specs.declared.value.Slot.{Slot}
 use Rattle.sail_values.specs.declared.value.Value.{Value}
@@ -24,11 +23,11 @@ use Rattle.eval_rules.specs.Flow.{Out, gives, stops, Meaning, after, pure, leave
 use Rattle.eval_rules.specs.Eval.{faulty, restores}
 use Rattle.eval_uses.specs.Uses.{world_in}
 use Rattle.sym_rules.specs.Values.{SymValue, sym_unit, sym_truth, sym_bits, sym_member, SymSlot, SymPath, SymSetting}
-use Rattle.sym_rules.specs.Trees.{SymTree, leaf, naming, on, split, fails, onto, Leaf, Telling, told_answer, told, with_locals, both, forked, leaf_within, sym_pure, sym_fails}
+use Rattle.sym_rules.specs.Trees.{SymTree, leaf, naming, onto, Leaf, Telling, told_answer, told, with_locals, both, forked, leaf_within, sym_pure, sym_fails}
 use Rattle.sym_rules.specs.Sym.{needs, asserted_bit, asserted, leaf_restored}
 use Rattle.sym_follows.specs.Follows.{Says}
 use Rattle.sym_follows.proofs.Trees.{Arrival, comes_to, ends_at, behind_step, OfNext, arrivals, Short, go_on, arrivals_onto, short_first, short_next, AllShort}
-use Rattle.sym_follows.proofs.Values.{Is, IsTypedValue, value_at, BitIs, Tells, opposite_made}
+use Rattle.sym_follows.proofs.Values.{Is, value_at, BitIs, Tells, opposite_made}
 use Rattle.sym_follows.proofs.Parts.{SlotsAre, slots_at, drop_typed}
 use Rattle.sym_follows.proofs.Agree.{values_at, Later, later_refl, Comes, comes_trans, Always, always_on, Agrees, comes_here, now, agrees_locals}
 
@@ -213,27 +212,47 @@ module _ (here : SymSetting) (ranges : List Range) where
   does_if true a b o r h k = h
   does_if false a b o r h k = k
 
-  -- a fork does what the part does that its bit takes
-  pub does_fork : {S A : Type 0} {P : Values → S → A → Type 0} {p : SymPath} {x : Path} {l : List Slot} (t : Tree) (c : Bool) (a b : SymTree (Leaf S)) (o r : Out A)
-      → Agrees here p x.vars x.world l → Always BitIs p x.vars t c
-      → Does here ranges P p x a o → Does here ranges P p x b r → Does here ranges P p x (forked (literal_of t) t a b) (if c then o else r)
-  does_fork {S} {A} {P} {p} {x} t c a b o r ag h one_part other = step t (now here ag h)
+  -- where the paths of a fork come to: where those of the part do that its bit takes
+  pub fork_arrives : {S : Type 0} (x : Path) (t : Tree) (c : Bool) (a b : SymTree (Leaf S)) → IsValues (values_at x.vars) → BitIs (values_at x.vars) t c
+      → arrivals ranges (forked (literal_of t) t a b) x ≡ arrivals ranges (if c then a else b) x
+  fork_arrives x t c a b valid h = step t h
     where
-      taken : Does here ranges P p x (if c then a else b) (if c then o else r)
-      taken = does_if c a b o r one_part other
+      behind : (t : Tree) → BitIs (values_at x.vars) t c → arrivals ranges (both t a b) x ≡ arrivals ranges (if c then a else b) x
+      behind t k = both_arrive x t c k (opposite_made (values_at x.vars) valid t c k.typed k.width k.same) a b
 
-      behind : (t : Tree) → BitIs (values_at x.vars) t c → Does here ranges P p x (both t a b) (if c then o else r)
-      behind t k =
-          let n = opposite_made (values_at x.vars) ag.valid t c k.typed k.width k.same in
-          record { is = λ short. subst (λ found. Sim here P p x.vars found (if c then o else r)) (sym (both_arrive x t c k n a b)) (taken.is (both_short x t c k n a b short)) }
-
-      step : (t : Tree) → BitIs (values_at x.vars) t c → Does here ranges P p x (forked (literal_of t) t a b) (if c then o else r)
-      step (lit q) k = subst (λ d. Does here ranges P p x (if d then a else b) (if c then o else r)) (sym k.same) taken
+      step : (t : Tree) → BitIs (values_at x.vars) t c → arrivals ranges (forked (literal_of t) t a b) x ≡ arrivals ranges (if c then a else b) x
+      step (lit q) k = ap (λ d. arrivals ranges (if d then a else b) x) k.same
       step (var y w) k = behind (var y w) k
       step (one f u) k = behind (one f u) k
       step (two f u v) k = behind (two f u v) k
       step (three f u v w) k = behind (three f u v w) k
       step (sel f u) k = behind (sel f u) k
+
+  -- and few variables
+  pub fork_short : {S : Type 0} (x : Path) (t : Tree) (c : Bool) (a b : SymTree (Leaf S)) → IsValues (values_at x.vars) → BitIs (values_at x.vars) t c
+      → Short ranges (forked (literal_of t) t a b) x → Short ranges (if c then a else b) x
+  fork_short x t c a b valid h short = step t h short
+    where
+      behind : (t : Tree) → BitIs (values_at x.vars) t c → Short ranges (both t a b) x → Short ranges (if c then a else b) x
+      behind t k s = both_short x t c k (opposite_made (values_at x.vars) valid t c k.typed k.width k.same) a b s
+
+      step : (t : Tree) → BitIs (values_at x.vars) t c → Short ranges (forked (literal_of t) t a b) x → Short ranges (if c then a else b) x
+      step (lit q) k s = subst (λ d. Short ranges (if d then a else b) x) k.same s
+      step (var y w) k s = behind (var y w) k s
+      step (one f u) k s = behind (one f u) k s
+      step (two f u v) k s = behind (two f u v) k s
+      step (three f u v w) k s = behind (three f u v w) k s
+      step (sel f u) k s = behind (sel f u) k s
+
+  -- a fork does what the part does that its bit takes
+  pub does_fork : {S A : Type 0} {P : Values → S → A → Type 0} {p : SymPath} {x : Path} {l : List Slot} (t : Tree) (c : Bool) (a b : SymTree (Leaf S)) (o r : Out A)
+      → Agrees here p x.vars x.world l → Always BitIs p x.vars t c
+      → Does here ranges P p x a o → Does here ranges P p x b r → Does here ranges P p x (forked (literal_of t) t a b) (if c then o else r)
+  does_fork {P} {p} {x} t c a b o r ag h one_part other = record {
+    is = λ short.
+        subst (λ found. Sim here P p x.vars found (if c then o else r)) (sym (fork_arrives x t c a b ag.valid (now here ag h)))
+        ((does_if c a b o r one_part other).is (fork_short x t c a b ag.valid (now here ag h) short));
+  }
 
   -- ---- asserts
 

@@ -1,7 +1,7 @@
 -- What was done only grows, in each part of an evaluation.
-use Rattle.std.proofs.Common.{◌≡◌, ℕ, zero, suc, ◌+◌, Bool, true, false, List, [], ◌∷◌, ◌++◌, length, Option, Some, None, refl}
+use Rattle.std.proofs.Common.{ℕ, zero, suc, ◌+◌, Bool, true, false, List, [], ◌∷◌, ◌++◌, length, Option, Some, None}
 use Rattle.std.specs.Prelude.{if◌then◌else◌}
-use Rattle.sail_syntax.specs.Tree.{Text, Tree, node, Trees, none, some, arm, Cases, no_case, case, Step, binds, holds, does, Steps, done, next}
+use Rattle.sail_syntax.specs.Tree.{Text, Tree, Trees, none, some, arm, Cases, no_case, case, Step, binds, holds, does, Steps, done, next}
 use Rattle.sail_syntax.specs.Program.{Definition}
 use Rattle.sail_syntax.specs.declared.tree.Infix.{Infix}
 use Rattle.state_core.specs.World.{World}

@@ -1,15 +1,15 @@
-mod Trees
-mod Bridge
-mod Values
-mod Sound
-mod Parts
-mod Agree
-mod Does
-mod Things
-mod Names
-mod Memory
-mod Grow
-mod Calls
-mod Simulate
-mod Typed
-mod Program
+pub mod Trees
+pub mod Bridge
+pub mod Values
+pub mod Sound
+pub mod Parts
+pub mod Agree
+pub mod Does
+pub mod Things
+pub mod Names
+pub mod Memory
+pub mod Grow
+pub mod Calls
+pub mod Simulate
+pub mod Typed
+pub mod Program

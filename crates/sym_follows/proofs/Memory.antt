@@ -1,6 +1,6 @@
 -- The functions of the prelude: tests, operators, and accesses of memory.
-use Rattle.std.proofs.Common.{◌≡◌, ℕ, ◌+◌, ◌*◌, ◌^◌, ◌<◌, ◌≤◌, Bool, true, false, not, ◌&&◌, List, [], ◌∷◌, length, Option, Some, None, IsSome, is_some, unwrap_or, nat_eq, nat_lt, nat_le, lt-ltb, leb-true, eqb-true, refl, sym, ap, ap₂, ◌∙◌, subst, subst₂, arith}
-use Rattle.std.specs.Prelude.{⊤, if◌then◌else◌, slice_get, map}
+use Rattle.std.proofs.Common.{◌≡◌, ℕ, ◌+◌, ◌*◌, ◌^◌, ◌<◌, ◌≤◌, Bool, true, false, not, ◌&&◌, List, [], ◌∷◌, length, Option, Some, None, IsSome, is_some, unwrap_or, nat_eq, nat_lt, nat_le, lt-ltb, leb-true, refl, sym, ap, ap₂, ◌∙◌, subst, subst₂, arith}
+use Rattle.std.specs.Prelude.{⊤, if◌then◌else◌}
 use Rattle.std.proofs.lemmas.Bool.{and_parts}
 use Rattle.bv_bits.specs.declared.Bits.{Bits}
 use Rattle.bv_bits.specs.declared.Op.{Op}
@@ -13,16 +13,15 @@ use Rattle.state_core.specs.State.{IsState, Memory}
 use Rattle.state_core.specs.World.{World, Got, gets, faults, lacks, reached}
 use Rattle.state_core.specs.Memory.{Nothing, nothing, load, store, written, touches, in_device, logged, or_no_place, told as told_device}
 use Rattle.state_core.specs.Laws.{IsRead, IsStored}
-use Rattle.term_tree.specs.Terms.{Tree, lit, var, one, two, width_of, IsTyped}
+use Rattle.term_tree.specs.Terms.{Tree, var, two, width_of, IsTyped}
 use Rattle.term_tree.specs.Values.{Values, IsValues, value}
 use Rattle.term_tree.proofs.OperatorLemmas.{width_here}
-use Rattle.term_make.specs.Making.{make}
 use Rattle.term_make.proofs.TypedLemmas.{make_width}
 use Rattle.term_arena.specs.Said.{Answer, Answers, Refuses, says, said_just, said_then}
 use Rattle.trace_plain.specs.declared.trace.FailKind.{FailKind}
 use Rattle.trace_plain.specs.declared.trace.FailKind.TheVariants as failure
 use Rattle.trace_plain.specs.Rules.{var_name}
-use Rattle.trace_plain.specs.Following.{Path, faulted, unanswered, ended, value_on, bind as binding, in_world, binds_read, goes_behind}
+use Rattle.trace_plain.specs.Following.{Path, faulted, unanswered, ended, bind as binding, in_world, binds_read, goes_behind}
 use Rattle.sail_values.specs.declared.value.Slot.{Slot}
 use Rattle.sail_values.specs.declared.value.Value.{Value}
 use Rattle.sail_values.specs.declared.value.Value.TheVariants as concrete
@@ -30,17 +29,17 @@ use Rattle.sail_values.specs.Values as sail
 use Rattle.sail_values.specs.Values.{is_vector}
 use Rattle.sail_names.specs.declared.things.Given.{Given}
 use Rattle.sail_names.specs.declared.things.Given.TheVariants as given
-use Rattle.eval_rules.specs.Flow.{Out, gives, pure}
-use Rattle.eval_rules.specs.Prelude.{is_one, compared, is_address, is_of_bytes, bytes_value, read_out, write_out, read_bytes, write_vector, write_bytes, given_on, given_call}
+use Rattle.eval_rules.specs.Flow.{gives}
+use Rattle.eval_rules.specs.Prelude.{is_one, compared, is_address, is_of_bytes, read_out, write_out, read_bytes, write_vector, write_bytes, given_on}
 use Rattle.eval_types.proofs.GivenLemmas.{Accesses}
-use Rattle.sym_rules.specs.Values.{SymValue, sym_unit, sym_truth, sym_bits, sym_member, sym_or_unit, SymPath, SymSetting}
-use Rattle.sym_rules.specs.Trees.{SymTree, leaf, Leaf, Telling, making, told, sym_pure}
-use Rattle.sym_rules.specs.Operators.{sym_nth, is_unsupported, operate_terms, sym_operate, as_bits}
+use Rattle.sym_rules.specs.Values.{SymValue, sym_unit, sym_truth, sym_bits, sym_member, SymPath, SymSetting}
+use Rattle.sym_rules.specs.Trees.{leaf, making, sym_pure}
+use Rattle.sym_rules.specs.Operators.{is_unsupported, sym_operate, as_bits}
 use Rattle.sym_rules.specs.Names.{counts_on, bits_leaf}
-use Rattle.sym_rules.specs.Prelude.{tested, sym_compared, opposite_of, is_access, is_address_term, bytes_read, sym_read_bytes, bytes_written, vector_written, sym_write_bytes, sym_given_on, sym_given}
+use Rattle.sym_rules.specs.Prelude.{tested, sym_compared, opposite_of, is_access, is_address_term, bytes_read, sym_read_bytes, bytes_written, vector_written, sym_write_bytes, sym_given_on}
 use Rattle.sym_follows.proofs.Trees.{behind_step, arrivals}
 use Rattle.sym_follows.proofs.Values.{value_at, IsTypedValue, Is, Tells, tells_then, vector_at, width_at, operate_is, known_is, opposite_truth}
-use Rattle.sym_follows.proofs.Agree.{values_at, Later, fresh_is, Always, Agrees, comes_here, now, agrees_more, comes_more, agrees_world}
+use Rattle.sym_follows.proofs.Agree.{values_at, fresh_is, Always, Agrees, comes_here, now, agrees_more, comes_more, agrees_world}
 use Rattle.sym_follows.proofs.Does.{Does, Sim, full, does_leaf, does_told, unit_always}
 use Rattle.sym_follows.proofs.Things.{HasBytes}
 

@@ -56,13 +56,13 @@ grows_state w s = record { accesses = []; events = []; accesses_grow = sym (appe
 module _ (here : SymSetting) (ranges : List Range) (p : SymPath) (x : Path) (l : List Slot) (ag : Agrees here p x.vars x.world l) where
   -- ---- registers
 
-  register_width : (r : ℕ) → (register_of x.world.state r).width ≡ width_here here r
+  pub register_width : (r : ℕ) → (register_of x.world.state r).width ≡ width_here here r
   register_width r = sym (get_or-map width_of_bits x.world.state.registers r (record { width = 0; value = 0 })) ∙ ap (λ ws. slice_index_or ws r 0) ag.widths
 
   register_there : (r : ℕ) → r < length here.widths → r < length x.world.state.registers
   register_there r h = omega (arith, h, ap length ag.widths, length-map x.world.state.registers width_of_bits)
 
-  register_bits : (r : ℕ) → r < length here.widths → IsBits (register_of x.world.state r)
+  pub register_bits : (r : ℕ) → r < length here.widths → IsBits (register_of x.world.state r)
   register_bits r h = ag.state.registers r (record { width = 0; value = 0 }) (register_there r h)
 
   same_itself : (b : Bits) → same_bits b b ≡ true

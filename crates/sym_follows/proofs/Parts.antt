@@ -1,11 +1,11 @@
 -- Parts of values over terms: slices and updates, locals, the conditions of patterns, and what patterns bind.
-use Rattle.std.proofs.Common.{◌≡◌, ℕ, zero, suc, ◌+◌, ◌-◌, ◌^◌, ◌<◌, Bool, true, false, not, ◌&&◌, List, [], ◌∷◌, length, drop, Option, Some, None, IsSome, nat_eq, nat_lt, bit_and, eqb-true, eq-eqb, ne_eqb, ◌≢◌, ◌⊎◌, inl, inr, refl, sym, ap, ap₂, ◌∙◌, subst, subst₂, arith}
+use Rattle.std.proofs.Common.{◌≡◌, ℕ, zero, suc, ◌+◌, ◌-◌, ◌<◌, Bool, true, false, ◌&&◌, List, [], ◌∷◌, drop, Option, Some, None, nat_eq, nat_lt, bit_and, eqb-true, eq-eqb, ne_eqb, ◌≢◌, ◌⊎◌, inl, inr, refl, sym, ap, ap₂, ◌∙◌, subst, arith}
 use Rattle.std.specs.Prelude.{⊤, if◌then◌else◌, map, bytes_eq, option_map}
 use Rattle.std.proofs.lemmas.Bool.Decides.{eqb_tells}
 use Rattle.bv_bits.specs.declared.Bits.{Bits}
 use Rattle.bv_bits.specs.declared.Op.TheVariants as op
-use Rattle.bv_bits.specs.Bits.{IsBits, bit}
-use Rattle.term_tree.specs.Terms.{Tree, lit, two, width_of, IsTyped}
+use Rattle.bv_bits.specs.Bits.{IsBits}
+use Rattle.term_tree.specs.Terms.{Tree, lit, two, width_of}
 use Rattle.term_tree.specs.Values.{Values, IsValues, value}
 use Rattle.term_tree.proofs.OperatorLemmas.{some_same, width_here}
 use Rattle.term_make.specs.Making.{make}
@@ -31,12 +31,12 @@ use Rattle.sail_names.specs.Things.{find_thing}
 use Rattle.eval_rules.specs.Parts.{number_in, base_of, index_at, width_in, sliced, above, below, updated, part_width, piece, part_fits, parts_fit, name_fits, fits, holding, part_bound, parts_bound, name_bound, pattern_bound}
 use Rattle.eval_rules.specs.Names.{value_of}
 use Rattle.sym_rules.specs.Values.{SymValue, sym_unit, sym_truth, sym_bits, sym_member, SymLocal, sym_is, sym_counts, SymSlot, sym_look, sym_has, sym_put, sym_width}
-use Rattle.sym_rules.specs.Trees.{Telling, making, bit_term}
+use Rattle.sym_rules.specs.Trees.{Telling, making}
 use Rattle.sym_rules.specs.Operators.{sym_operate_one, sym_applied}
 use Rattle.sym_rules.specs.Parts.{sym_number, sym_base, sym_index, sym_sliced, sym_above, sym_below, sym_updated, known_bit, equals_literal, equals_truth, is_member, name_condition, sym_piece, part_condition, parts_condition, condition, sym_holding, sym_part_bound, sym_parts_bound, sym_name_bound, sym_pattern_bound}
 use Rattle.sym_rules.specs.Names.{sym_value_of}
 use Rattle.sym_follows.proofs.Sound.{IsSoundPart, AreSoundParts, IsSoundPattern}
-use Rattle.sym_follows.proofs.Values.{value_at, IsTypedValue, Is, BitIs, Tells, tells_then, one_of_bit, bit_typed, width_at as width_at_values, bit_at, operate_one_is, bit_made, opposite_made, known_is, applied_is}
+use Rattle.sym_follows.proofs.Values.{value_at, IsTypedValue, Is, BitIs, Tells, tells_then, one_of_bit, bit_typed, width_at as width_at_values, bit_at, operate_one_is, bit_made, opposite_made, applied_is}
 
 -- ---- locals
 

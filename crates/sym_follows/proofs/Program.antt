@@ -1,41 +1,38 @@
 -- The law for programs.
-use Rattle.std.proofs.Common.{◌≡◌, ℕ, ◌+◌, ◌^◌, ◌≤◌, Bool, true, false, List, [], ◌∷◌, ◌++◌, length, reverse, map, Option, Some, None, nat_eq, refl, sym, ap, ◌∙◌, subst, arith}
-use Rattle.std.specs.Prelude.{⊤, if◌then◌else◌}
+use Rattle.std.proofs.Common.{◌≡◌, ℕ, Bool, true, false, List, [], ◌∷◌, length, reverse, map, nat_eq, refl, sym, ap, ◌∙◌, subst, arith, Contains, ◌⊎◌, inl, inr}
+use Rattle.std.specs.Prelude.{if◌then◌else◌}
+use Rattle.std.proofs.lemmas.List.Elements.{Contains-push, Contains-push_cases}
 use Rattle.bv_bits.specs.declared.Bits.{Bits}
-use Rattle.bv_bits.specs.Bits.{IsBits}
-use Rattle.sail_syntax.specs.Tree.{Text}
-use Rattle.sail_syntax.specs.Program.{Definition, Function, order, register, enumeration, signature, function, registers_of}
+use Rattle.sail_syntax.specs.Program.{Definition, Function, order, register, enumeration, signature, function}
 use Rattle.state_core.specs.declared.kinds.Range.{Range}
 use Rattle.state_core.specs.World.{World}
 use Rattle.state_core.specs.Laws.{Grows}
 use Rattle.term_tree.specs.Terms as term
-use Rattle.term_tree.specs.Values.{Values, IsValues}
 use Rattle.term_tree.proofs.PairLemmas.{values_are}
 use Rattle.term_arena.specs.Said.{single}
 use Rattle.trace_plain.specs.declared.trace.FailKind.TheVariants as failure
-use Rattle.trace_plain.specs.Following.{Path, path_from, Ending, whole, failed, faulted, unanswered, ended, outcomes}
-use Rattle.trace_plain.specs.Trace.{size}
+use Rattle.trace_plain.specs.Following.{Path, path_from, Ending, whole, failed, faulted, unanswered, Outcome, ended, outcomes}
+use Rattle.trace_plain.specs.Trace.{Trace}
+use Rattle.trace_plain.specs.Laws.{FollowsTheList}
 use Rattle.sail_values.specs.declared.value.Slot.{Slot}
 use Rattle.sail_values.specs.declared.value.Value.{Value}
 use Rattle.sail_values.specs.declared.value.Value.TheVariants as concrete
 use Rattle.sail_names.specs.Things.{find_thing, things_of}
 use Rattle.eval_rules.specs.Flow.{Out, gives, stops, Meaning}
-use Rattle.eval_rules.specs.Eval.{calls_of, called, call_of, bound, entered, eval, restores}
-use Rattle.eval_types.specs.Types.{StateFits}
+use Rattle.eval_rules.specs.Eval.{calls_of, called, call_of, bound, entered}
 use Rattle.eval_types.proofs.GivenLemmas.{Accesses}
 use Rattle.eval_uses.specs.Uses.{world_in}
-use Rattle.sym_rules.specs.Values.{SymValue, SymPath, SymSetting, entry_of}
-use Rattle.sym_rules.specs.Trees.{SymTree, Leaf, SymMeaning, with_locals, told, traced}
+use Rattle.sym_rules.specs.Values.{SymValue, SymPath, SymSetting}
+use Rattle.sym_rules.specs.Trees.{SymTree, Leaf, SymMeaning, with_locals, traced}
 use Rattle.sym_rules.specs.Operators.{as_bits}
-use Rattle.sym_rules.specs.Sym.{sym_called, sym_calls, sym_bound, sym_entered, sym_setting, fresh_path, sym_of, trace_of, register_width}
+use Rattle.sym_rules.specs.Sym.{sym_calls, sym_bound, sym_entered, sym_setting, fresh_path, sym_of}
 use Rattle.sym_follows.specs.Follows.{Meets, Says, FollowsAlone, EvaluationFollows}
-use Rattle.sym_follows.proofs.Trees.{comes_to, ends_at, arrivals, Short}
+use Rattle.sym_follows.proofs.Trees.{arrivals}
 use Rattle.sym_follows.proofs.Bridge.{final, outcomes_traced, short_of_size}
 use Rattle.sym_follows.proofs.Sound.{IsSound, AreSoundDefinitions}
 use Rattle.sym_follows.proofs.Values.{Is}
-use Rattle.sym_follows.proofs.Parts.{SlotsAre}
-use Rattle.sym_follows.proofs.Agree.{values_at, Comes, Always, Agrees, comes_here, agrees_locals}
-use Rattle.sym_follows.proofs.Does.{grows_none, GaveUp, Full, Sim, full, gives_up, Does, on_to, does_leaf, does_told, does_restored, does_earlier, unit_always}
+use Rattle.sym_follows.proofs.Agree.{Comes, Always, Agrees, comes_here, agrees_locals}
+use Rattle.sym_follows.proofs.Does.{GaveUp, Full, Sim, full, gives_up, Does, on_to, does_leaf, does_told, does_restored, does_earlier, unit_always}
 use Rattle.sym_follows.proofs.Things.{AreProper, found_proper, things_proper}
 use Rattle.sym_follows.proofs.Grow.{grow_called}
 use Rattle.sym_follows.proofs.Calls.{AreAll, all_one, bound_are}
@@ -72,7 +69,7 @@ module _ (here : SymSetting) (ranges : List Range) (accesses : Accesses ranges) 
       (entered_does d ds h follow ag k) (follow.each i ag k)
 
   -- the tree of a call of one of these functions does what the call does
-  calls_follow : (ds : List Definition) → AreSoundDefinitions ds → CallsFollow here ranges accesses proper ds (sym_calls here ds)
+  pub calls_follow : (ds : List Definition) → AreSoundDefinitions ds → CallsFollow here ranges accesses proper ds (sym_calls here ds)
   calls_follow [] h = record { each = λ i ag k. does_leaf here ranges {P = Is} ag (unit_always here ranges) }
   calls_follow (order ∷ ds) h = record { each = λ i ag k. (calls_follow ds h.1).each i ag k }
   calls_follow (register x width at ∷ ds) h = record { each = λ i ag k. (calls_follow ds h.1).each i ag k }
@@ -81,6 +78,24 @@ module _ (here : SymSetting) (ranges : List Range) (accesses : Accesses ranges) 
   calls_follow (function d ∷ ds) h = record { each = λ i ag k. function_does d ds h.0 (calls_follow ds h.1) i ag k }
 
 -- ---- what the outcome says
+
+-- the one outcome of a list
+one_of : (out other : Outcome) (list : List Outcome) → list ≡ out ∷ [] → Contains list other → other ≡ out
+one_of out other list e h = either (Contains-push_cases [] out other (subst (λ l. Contains l other) e h))
+  where
+    either : Contains [] other ⊎ (out ≡ other) → other ≡ out
+    either (inl k) = absurd (omega (arith, k.1))
+    either (inr k) = sym k
+
+-- just one outcome is in the list of those that follow
+alone : FollowsTheList → (ranges : List Range) (t : Trace) (x : Path) (r : Out Value) (out : Outcome) → outcomes ranges t x ≡ out ∷ [] → Says out.ending out.world r → FollowsAlone ranges t x r
+alone list ranges t x r out e h = record {
+  outcome = out;
+  follows = (list ranges t x out).1 (subst (λ l. Contains l out) (sym e) (Contains-push [] out));
+  alone = λ other k. one_of out other (outcomes ranges t x) e ((list ranges t x other).0 k);
+  once = e;
+  says = h;
+}
 
 gave_up_says : (e : Ending) (w : World) (r : Out Value) → GaveUp e → Grows w (world_in r) → Says e w r
 gave_up_says whole w r h g = absurd h
@@ -92,20 +107,20 @@ gave_up_says (failed failure.AssumedWritten) w r h g = g
 gave_up_says (faulted k) w r h g = absurd h
 gave_up_says unanswered w r h g = absurd h
 
-module _ (here : SymSetting) (ranges : List Range) (p : SymPath) (t : SymTree (Leaf SymValue)) (x : Path) where
+module _ (list : FollowsTheList) (here : SymSetting) (ranges : List Range) (p : SymPath) (t : SymTree (Leaf SymValue)) (x : Path) where
   full_says : (r : Out Value) → Full here Is p x.vars (arrivals ranges t x) r → FollowsAlone ranges (traced t) x r
-  full_says (gives a l w) h = record { outcome = ended whole h.there; only = outcomes_traced ranges t x ∙ ap (map final) h.only; says = sym h.world }
-  full_says (stops why w) h = record { outcome = h.out; only = outcomes_traced ranges t x ∙ ap (map final) h.only; says = h.says }
+  full_says (gives a l w) h = alone list ranges (traced t) x (gives a l w) (ended whole h.there) (outcomes_traced ranges t x ∙ ap (map final) h.only) (sym h.world)
+  full_says (stops why w) h = alone list ranges (traced t) x (stops why w) h.out (outcomes_traced ranges t x ∙ ap (map final) h.only) h.says
 
   sim_says : (r : Out Value) → Sim here Is p x.vars (arrivals ranges t x) r → FollowsAlone ranges (traced t) x r
   sim_says r (full h) = full_says r h
   sim_says r (gives_up h) =
-      record { outcome = h.out; only = outcomes_traced ranges t x ∙ ap (map final) h.only; says = gave_up_says h.out.ending h.out.world r h.gave h.grows }
+      alone list ranges (traced t) x r h.out (outcomes_traced ranges t x ∙ ap (map final) h.only) (gave_up_says h.out.ending h.out.world r h.gave h.grows)
 
 -- ---- the law
 
 -- the beginning of a path
-start : (defs : List Definition) (given : List (ℕ × Bits)) (w : World) → Meets defs given w → Agrees (sym_setting defs given) fresh_path [] w []
+pub start : (defs : List Definition) (given : List (ℕ × Bits)) (w : World) → Meets defs given w → Agrees (sym_setting defs given) fresh_path [] w []
 start defs given w meets = record {
   locals = record { is = λ v k. record { typed = tt; same = refl } };
   known = λ r t e. absurd cc;
@@ -116,8 +131,8 @@ start defs given w meets = record {
   counted = omega (arith);
 }
 
-pub evaluation_follows : ((ranges : List Range) → Accesses ranges) → EvaluationFollows
-evaluation_follows accesses defs given ranges f at b w typed bits meets named =
+pub evaluation_follows : FollowsTheList → ((ranges : List Range) → Accesses ranges) → EvaluationFollows
+evaluation_follows list accesses defs given ranges f at b w typed bits meets named =
     let here = sym_setting defs given in
     let proper = things_proper defs in
     let x : Path = path_from [] w in
@@ -131,5 +146,5 @@ evaluation_follows accesses defs given ranges f at b w typed bits meets named =
     (λ v. grow_called set ds (find_thing f (things_of defs)) at (v ∷ []))
     (λ m y v l come more is. called_does here ranges (accesses ranges) proper ds (sym_calls here ds) follow (find_thing f (things_of defs)) at
     (found_proper (length here.widths) f here.things proper) more (record { is = λ u k. all_one u m.value v (is.is u k) })) in
-    sim_says here ranges fresh_path (sym_of defs given f b) x (call_of defs ranges f at (concrete.Bits b ∷ []) w)
+    sim_says list here ranges fresh_path (sym_of defs given f b) x (call_of defs ranges f at (concrete.Bits b ∷ []) w)
     (does.is (short_of_size ranges (sym_of defs given f b) x (omega (arith, named))))

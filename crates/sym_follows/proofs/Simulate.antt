@@ -64,19 +64,19 @@ module _ (here : SymSetting) (ranges : List Range) (accesses : Accesses ranges) 
         → Does here ranges Is p x (calls i ss p) (calls_of setting ds i vs l x.world)
 
   -- a fault of the text
-  does_fault : (k : FaultKind) (f : FailKind) (at : ℕ) {p : SymPath} {x : Path} → Says (failed f) x.world (stops (fault k at) x.world)
+  pub does_fault : (k : FaultKind) (f : FailKind) (at : ℕ) {p : SymPath} {x : Path} → Says (failed f) x.world (stops (fault k at) x.world)
       → Does here ranges Is p x (fails f) (stops (fault k at) x.world)
   does_fault k f at {p} {x} says = record { is = λ short. full (record { out = ended (failed f) x; only = refl; says = says }) }
 
   -- a new local
-  define_is : (y : Text) (s : SymValue) (a : Value) {p : SymPath} {x : Path} {l : List Slot} → Agrees here p x.vars x.world l → Always Is p x.vars s a
+  pub define_is : (y : Text) (s : SymValue) (a : Value) {p : SymPath} {x : Path} {l : List Slot} → Agrees here p x.vars x.world l → Always Is p x.vars s a
       → Does here ranges Is p x (sym_define y (sym_is s) p) (define y (local.Is a) l x.world)
   define_is y s a {p} {x} {l} ag h =
       does_locals here ranges {P = Is} (record { name = y; local = sym_is s } ∷ p.locals) (record { name = y; local = local.Is a } ∷ l) ag
       (record { is = λ v k. record { typed = ((h.is v k).typed, (ag.locals.is v k).typed); same = ap₂ (λ a m. record { name = y; local = local.Is a } ∷ m) ((h.is v k).same) ((ag.locals.is v k).same) } })
       (unit_always here ranges)
 
-  define_counts : (y : Text) (n : ℕ) {p : SymPath} {x : Path} {l : List Slot} → Agrees here p x.vars x.world l
+  pub define_counts : (y : Text) (n : ℕ) {p : SymPath} {x : Path} {l : List Slot} → Agrees here p x.vars x.world l
       → Does here ranges Is p x (sym_define y (sym_counts n) p) (define y (local.Counts n) l x.world)
   define_counts y n {p} {x} {l} ag =
       does_locals here ranges {P = Is} (record { name = y; local = sym_counts n } ∷ p.locals) (record { name = y; local = local.Counts n } ∷ l) ag
@@ -84,7 +84,7 @@ module _ (here : SymSetting) (ranges : List Range) (accesses : Accesses ranges) 
       (unit_always here ranges)
 
   -- the names that a pattern binds
-  enter_does : (pt : Pattern) (s : SymValue) (a : Value) {p : SymPath} {x : Path} {l : List Slot} → Agrees here p x.vars x.world l → Always Is p x.vars s a
+  pub enter_does : (pt : Pattern) (s : SymValue) (a : Value) {p : SymPath} {x : Path} {l : List Slot} → Agrees here p x.vars x.world l → Always Is p x.vars s a
       → Does here ranges Is p x (sym_enter here.things pt s p) (enter setting pt a l x.world)
   enter_does pt s a {p} {x} {l} ag h =
       on_to here ranges {P = SlotsAre} {Q = Is} {o = gives (pattern_bound here.things pt a l) l x.world} (λ ms l w. gives concrete.Unit ms w)
@@ -93,7 +93,7 @@ module _ (here : SymSetting) (ranges : List Range) (accesses : Accesses ranges) 
       (λ m y ms k come more is. does_locals here ranges {P = Is} m.value ms more is (unit_always here ranges))
 
   -- the bits of a value
-  slice_does : (hi lo : Index) (s : SymValue) (a : Value) {p : SymPath} {x : Path} {l : List Slot} → Agrees here p x.vars x.world l → Always Is p x.vars s a
+  pub slice_does : (hi lo : Index) (s : SymValue) (a : Value) {p : SymPath} {x : Path} {l : List Slot} → Agrees here p x.vars x.world l → Always Is p x.vars s a
       → Does here ranges Is p x (sym_slice_now hi lo s p) (slice_now hi lo a l x.world)
   slice_does hi lo s a {p} {x} {l} ag h =
       let e = (now here ag ag.locals).same in
@@ -101,7 +101,7 @@ module _ (here : SymSetting) (ranges : List Range) (accesses : Accesses ranges) 
       (does_told here ranges {P = Is} (sym_sliced s (sym_index hi p.locals) (sym_index lo p.locals)) (sliced a (sym_index hi p.locals) (sym_index lo p.locals)) ag
       (λ v k. sliced_is v k.valid (sym_index hi p.locals) (sym_index lo p.locals) (h.is v k)))
 
-  update_does : (hi lo : Index) (s t : SymValue) (a b : Value) {p : SymPath} {x : Path} {l : List Slot} → Agrees here p x.vars x.world l → Always Is p x.vars s a → Always Is p x.vars t b
+  pub update_does : (hi lo : Index) (s t : SymValue) (a b : Value) {p : SymPath} {x : Path} {l : List Slot} → Agrees here p x.vars x.world l → Always Is p x.vars s a → Always Is p x.vars t b
       → Does here ranges Is p x (sym_update_now hi lo s t p) (update_now hi lo a b l x.world)
   update_does hi lo s t a b {p} {x} {l} ag h i =
       let e = (now here ag ag.locals).same in
@@ -110,7 +110,7 @@ module _ (here : SymSetting) (ranges : List Range) (accesses : Accesses ranges) 
       (λ v k. updated_is v k.valid (sym_index hi p.locals) (sym_index lo p.locals) (h.is v k) (i.is v k)))
 
   -- the turns of a foreach
-  turns_does : (n i : ℕ) (tree : ℕ → SymMeaning SymValue) (body : ℕ → Meaning Value) {p : SymPath} {x : Path} {l : List Slot} → ((i : ℕ) → Grow (body i))
+  pub turns_does : (n i : ℕ) (tree : ℕ → SymMeaning SymValue) (body : ℕ → Meaning Value) {p : SymPath} {x : Path} {l : List Slot} → ((i : ℕ) → Grow (body i))
       → ((i : ℕ) (p : SymPath) (x : Path) (l : List Slot) → Agrees here p x.vars x.world l → Does here ranges Is p x (tree i p) (body i l x.world))
       → Agrees here p x.vars x.world l → Does here ranges Is p x (sym_turns n i tree p) (turns n i body l x.world)
   turns_does zero i tree body grow each ag = does_leaf here ranges {P = Is} ag (unit_always here ranges)
@@ -187,14 +187,14 @@ module _ (here : SymSetting) (ranges : List Range) (accesses : Accesses ranges) 
           (λ m z a l come more is. does_write here ranges m.path z l more y m.value a proper is)
       form_does (block steps) at h ag = does_within here ranges ag (comes_here here ag) (steps_does steps h ag (unit_always here ranges))
 
-      chain_does : (ts : Trees) (op : Infix) {p : SymPath} {x : Path} {l : List Slot} → AreSound ts → Agrees here p x.vars x.world l
+      pub chain_does : (ts : Trees) (op : Infix) {p : SymPath} {x : Path} {l : List Slot} → AreSound ts → Agrees here p x.vars x.world l
           → Does here ranges Is p x (sym_chain here calls ts op p) (eval_chain setting (calls_of setting ds) ts op l x.world)
       chain_does none op h ag = does_leaf here ranges {P = Is} ag (unit_always here ranges)
       chain_does (some t rest) op h ag =
           on_to here ranges {P = Is} {Q = Is} (λ v. eval_rest setting (calls_of setting ds) rest op v) (tree_does t h.0 ag) (λ v. grow_rest setting ds rest op v)
           (λ m y a l come more is. rest_does rest op h.1 more is)
 
-      rest_does : (ts : Trees) (op : Infix) {s : SymValue} {a : Value} {p : SymPath} {x : Path} {l : List Slot} → AreSound ts → Agrees here p x.vars x.world l → Always Is p x.vars s a
+      pub rest_does : (ts : Trees) (op : Infix) {s : SymValue} {a : Value} {p : SymPath} {x : Path} {l : List Slot} → AreSound ts → Agrees here p x.vars x.world l → Always Is p x.vars s a
           → Does here ranges Is p x (sym_rest here calls ts op s p) (eval_rest setting (calls_of setting ds) ts op a l x.world)
       rest_does none op h ag k = does_leaf here ranges {P = Is} ag k
       rest_does (some t rest) op {s} {a} {p} {x} {l} h ag k =
@@ -207,14 +207,14 @@ module _ (here : SymSetting) (ranges : List Range) (accesses : Accesses ranges) 
           (λ n z c k3 next_come most there. rest_does rest op h.1 most there)))
           op s a k
 
-      all_does : (ts : Trees) {ss : List SymValue} {vs : List Value} {p : SymPath} {x : Path} {l : List Slot} → AreSound ts → Agrees here p x.vars x.world l → Always AreAll p x.vars ss vs
+      pub all_does : (ts : Trees) {ss : List SymValue} {vs : List Value} {p : SymPath} {x : Path} {l : List Slot} → AreSound ts → Agrees here p x.vars x.world l → Always AreAll p x.vars ss vs
           → Does here ranges AreAll p x (sym_all here calls ts ss p) (eval_all setting (calls_of setting ds) ts vs l x.world)
       all_does none h ag k = does_leaf here ranges {P = AreAll} ag k
       all_does (some t rest) {ss} {vs} h ag k =
           on_to here ranges {P = Is} {Q = AreAll} (λ v. eval_all setting (calls_of setting ds) rest (vs ++ v ∷ [])) (tree_does t h.0 ag) (λ v. grow_all setting ds rest (vs ++ v ∷ []))
           (λ m y a l come more is. all_does rest h.1 more (record { is = λ v i. all_more v ((always_on come k).is v i) (is.is v i) }))
 
-      arms_does : (arms : Cases) (at : ℕ) {s : SymValue} {a : Value} {p : SymPath} {x : Path} {l : List Slot} → AreSoundArms arms → Agrees here p x.vars x.world l → Always Is p x.vars s a
+      pub arms_does : (arms : Cases) (at : ℕ) {s : SymValue} {a : Value} {p : SymPath} {x : Path} {l : List Slot} → AreSoundArms arms → Agrees here p x.vars x.world l → Always Is p x.vars s a
           → Does here ranges Is p x (sym_arms here calls arms s p) (eval_arms setting (calls_of setting ds) arms at a l x.world)
       arms_does no_case at h ag k = does_fault kind.MatchFail failure.Match at (refl, refl)
       arms_does (case (arm pt body) rest) at {s} {a} {p} {x} {l} h ag k =
@@ -230,7 +230,7 @@ module _ (here : SymSetting) (ranges : List Range) (accesses : Accesses ranges) 
           (on_to here ranges {P = Is} {Q = Is} (λ _. run body) (enter_does pt s a more (always_on come k)) (λ _. grow_eval setting ds body) (λ n z b k3 next_come most is. tree_does body h.1 most)))
           (arms_does rest at h.2 more (always_on come k)) m.value c bit)
 
-      step_does : (s : Step) {p : SymPath} {x : Path} {l : List Slot} → IsSoundStep s → Agrees here p x.vars x.world l
+      pub step_does : (s : Step) {p : SymPath} {x : Path} {l : List Slot} → IsSoundStep s → Agrees here p x.vars x.world l
           → Does here ranges Is p x (sym_step here calls s p) (eval_step setting (calls_of setting ds) s l x.world)
       step_does (binds y ty by) h ag =
           on_to here ranges {P = Is} {Q = Is} (λ v. define y (local.Is v)) (tree_does by h ag) (λ v l w. grows_none w) (λ m z a l come more is. define_is y m.value a more is)
@@ -238,7 +238,7 @@ module _ (here : SymSetting) (ranges : List Range) (accesses : Accesses ranges) 
           on_to here ranges {P = Is} {Q = Is} (λ v. define y (local.Is v)) (tree_does by h ag) (λ v l w. grows_none w) (λ m z a l come more is. define_is y m.value a more is)
       step_does (does e) h ag = tree_does e h ag
 
-      steps_does : (ss : Steps) {s : SymValue} {a : Value} {p : SymPath} {x : Path} {l : List Slot} → AreSoundSteps ss → Agrees here p x.vars x.world l → Always Is p x.vars s a
+      pub steps_does : (ss : Steps) {s : SymValue} {a : Value} {p : SymPath} {x : Path} {l : List Slot} → AreSoundSteps ss → Agrees here p x.vars x.world l → Always Is p x.vars s a
           → Does here ranges Is p x (sym_steps here calls ss s p) (eval_steps setting (calls_of setting ds) ss a l x.world)
       steps_does done h ag k = does_leaf here ranges {P = Is} ag k
       steps_does (next s rest) h ag k =

@@ -1,5 +1,5 @@
 -- Where the paths of a tree with open leaves come to, and those of a tree with the next one at each leaf.
-use Rattle.std.proofs.Common.{◌≡◌, ℕ, ◌^◌, ◌<◌, List, [], ◌∷◌, ◌++◌, length, refl, sym, ap, ◌∙◌, append_assoc, append-nil}
+use Rattle.std.proofs.Common.{◌≡◌, ◌^◌, ◌<◌, List, [], ◌∷◌, ◌++◌, length, refl, sym, ap, ◌∙◌, append_assoc, append-nil}
 use Rattle.std.specs.Prelude.{⊤}
 use Rattle.state_core.specs.declared.kinds.Range.{Range}
 use Rattle.trace_plain.specs.Following.{Path, failed, Outcome, ended, Step, goes, halts, blocked, act}

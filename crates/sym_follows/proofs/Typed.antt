@@ -1,7 +1,7 @@
 -- The literals of a typed program are bit vectors.
-use Rattle.std.proofs.Common.{◌≡◌, ℕ, ◌+◌, Bool, true, false, List, [], ◌∷◌, ◌++◌, reverse, Option, Some, None, sym, subst}
+use Rattle.std.proofs.Common.{ℕ, ◌+◌, Bool, true, false, List, [], ◌∷◌, ◌++◌, reverse, Option, Some, None, sym, subst}
 use Rattle.std.proofs.lemmas.List.{reverse-append}
-use Rattle.sail_syntax.specs.Tree.{Tree, node, Form, unit, lit, truth, name, chain, flip, slice, update, call, widen, choose, when, cases, foreach, check, exit, assign, block, Trees, none, some, arm, Cases, no_case, case, Step, binds, holds, does, Steps, done, next}
+use Rattle.sail_syntax.specs.Tree.{Tree, node, Form, unit, lit, truth, name, chain, flip, slice, update, call, widen, choose, when, cases, foreach, check, exit, assign, block, Trees, none, some, arm, Cases, no_case, case, binds, holds, does, Steps, done, next}
 use Rattle.sail_syntax.specs.Program.{Definition, order, register, enumeration, signature, function}
 use Rattle.sail_syntax.specs.declared.tree.Infix.{Infix}
 use Rattle.sail_syntax.specs.declared.types.Ty.{Ty}
@@ -18,9 +18,8 @@ use Rattle.type_rules.specs.declared.scope.Local.{Local}
 use Rattle.type_rules.specs.Names.{find, globals_of}
 use Rattle.type_rules.specs.Heights.{Height}
 use Rattle.type_rules.specs.Rules.{is_join, part_width}
-use Rattle.type_rules.specs.Program.{heights_after}
 use Rattle.type_rules.specs.HasType.{Where, Calls, ArePartsOf, PatternFits, HasType, FormHas, ChainHas, AllHave, JoinHas, ArgsHave, OthersHave, ArmsHave, RestHave, StepsHave}
-use Rattle.type_rules.specs.IsTyped.{IsTypedDefinition, AreTypedDefinitions, IsTypedProgram}
+use Rattle.type_rules.specs.IsTyped.{AreTypedDefinitions, IsTypedProgram}
 use Rattle.sym_follows.proofs.Sound.{AreSoundParts, IsSoundPattern, IsSound, IsSoundForm, AreSound, AreSoundArms, AreSoundSteps, AreSoundDefinitions}
 
 where_sound : (b : Bool) (A B C : Type 0) → Where b A B → (A → C) → (B → C) → C

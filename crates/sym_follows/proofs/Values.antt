@@ -1,13 +1,11 @@
 -- Values over terms, in values of the variables, and the operators on them.
-use Rattle.std.proofs.Common.{◌≡◌, ℕ, zero, suc, ◌+◌, ◌-◌, ◌^◌, ◌<◌, Bool, true, false, not, ◌&&◌, List, [], ◌∷◌, Option, Some, None, IsSome, is_some, unwrap_or, nat_eq, nat_lt, eqb-true, refl, sym, ap, ap₂, ◌∙◌, subst, subst₂, arith}
-use Rattle.std.specs.Prelude.{⊤, if◌then◌else◌, map, slice_get}
-use Rattle.std.specs.List.{list_all}
+use Rattle.std.proofs.Common.{◌≡◌, ℕ, zero, suc, ◌-◌, ◌^◌, ◌<◌, Bool, true, false, not, ◌&&◌, List, [], ◌∷◌, IsSome, is_some, unwrap_or, nat_eq, eqb-true, refl, sym, ap, ap₂, ◌∙◌, subst, subst₂, arith}
+use Rattle.std.specs.Prelude.{⊤, if◌then◌else◌}
 use Rattle.std.proofs.lemmas.Bool.{and_from}
-use Rattle.bv_bits.specs.declared.Bits.{Bits}
 use Rattle.bv_bits.specs.declared.Op.{Op}
 use Rattle.bv_bits.specs.declared.Op.TheVariants as op
-use Rattle.bv_bits.specs.Bits.{IsBits, bit, some_if, result_width_of, apply_of}
-use Rattle.term_tree.specs.Terms.{Tree, lit, var, one, two, three, sel, width_of, IsTyped, applied}
+use Rattle.bv_bits.specs.Bits.{bit, some_if, result_width_of}
+use Rattle.term_tree.specs.Terms.{Tree, one, two, width_of, IsTyped}
 use Rattle.term_tree.specs.Values.{Values, IsValues, value}
 use Rattle.term_tree.proofs.FitLemmas.{value_fits}
 use Rattle.term_tree.proofs.OperatorLemmas.{some_same, width_here, bit_below}
@@ -25,9 +23,9 @@ use Rattle.sail_values.specs.declared.value.Value.TheVariants as concrete
 use Rattle.sail_values.specs.Values as sail
 use Rattle.sail_values.specs.Values.{is_vector}
 use Rattle.eval_types.proofs.ValueLemmas.{vector_passes}
-use Rattle.sym_rules.specs.Values.{SymValue, sym_unit, sym_truth, sym_bits, sym_member, sym_or_unit}
+use Rattle.sym_rules.specs.Values.{SymValue, sym_unit, sym_truth, sym_bits, sym_member}
 use Rattle.sym_rules.specs.Trees.{Telling, making, bit_term}
-use Rattle.sym_rules.specs.Operators.{sym_nth, as_bits, as_truth, known_truth, is_unsupported, operated, operate_terms, sym_operate, sym_operate_one, sym_flipped, sym_widened, related, compares_same, as_it_is, sym_same, sym_differ, sym_applied}
+use Rattle.sym_rules.specs.Operators.{as_bits, as_truth, known_truth, is_unsupported, operate_terms, sym_operate, sym_operate_one, sym_flipped, sym_widened, related, compares_same, as_it_is, sym_same, sym_differ, sym_applied}
 
 -- ---- values over terms
 

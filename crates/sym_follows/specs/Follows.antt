@@ -19,7 +19,7 @@ use Rattle.eval_types.specs.Types.{StateFits}
 use Rattle.eval_uses.specs.Uses.{world_in}
 use Rattle.trace_plain.specs.declared.trace.FailKind.TheVariants as failure
 use Rattle.trace_plain.specs.Trace.{Trace, size}
-use Rattle.trace_plain.specs.Following.{Path, path_from, Ending, whole, failed, faulted, unanswered, Outcome, outcomes}
+use Rattle.trace_plain.specs.Following.{Path, path_from, Ending, whole, failed, faulted, unanswered, Outcome, Follows, outcomes}
 use Rattle.sym_rules.specs.Values.{entry_of}
 use Rattle.sym_rules.specs.Sym.{trace_of}
 
@@ -68,7 +68,10 @@ Says unanswered w r = StopsIn w LacksAnswer r
 -- just one outcome follows a trace, and it says what an evaluation comes to
 pub record FollowsAlone (ranges : List Range) (t : Trace) (p : Path) (r : Out Value) : Type 0 where
   pub outcome : Outcome
-  pub only : outcomes ranges t p ≡ outcome ∷ []
+  pub follows : Follows ranges t p outcome
+  pub alone : (other : Outcome) → Follows ranges t p other → other ≡ outcome
+  -- it stands in the list of outcomes once
+  pub once : outcomes ranges t p ≡ outcome ∷ []
   pub says : Says outcome.ending outcome.world r
 
 -- ---- the law

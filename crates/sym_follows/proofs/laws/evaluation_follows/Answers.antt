@@ -8,4 +8,4 @@ accesses : goal.After-stores → (ranges : List Range) → Accesses ranges
 accesses c ranges = record { loads = λ at n w. c.reads.ensures.loads ranges at n w; stores = λ at n x w. c.stores.ensures ranges at n x w }
 
 pub returns : goal.returns
-returns c = evaluation_follows (accesses c)
+returns c = evaluation_follows c.following.ensures.list (accesses c)
