@@ -45,7 +45,7 @@ brackets_ascii word ps h all = IsAscii-cons 40 (word ++ parts_text ps) (omega ar
 
 -- ---- terms
 
-term_ascii : (t : Tree) → IsTyped t → HasNoDivision t → HasNames t → IsAscii (term_text t)
+pub term_ascii : (t : Tree) → IsTyped t → HasNoDivision t → HasNames t → IsAscii (term_text t)
 unfolding AreAscii has_form
 term_ascii (lit b) typed whole names = literal_ascii b
 term_ascii (var x w) typed whole names = name_ascii x names

@@ -152,9 +152,10 @@ fn put_selected(alloc: Global, out: &mut Vec<u8>, of: &Name, at: &Term) -> Resul
     Ok(())
 }
 
-/// Appends a term.
+/// Appends the text of a term to a text that is begun, as `print_term` has it, byte for byte. The time is in proportion to
+/// what is appended.
 #[cycle(put)]
-fn put_term(alloc: Global, out: &mut Vec<u8>, term: &Term) -> Result<(), NoMemory>
+pub fn put_term(alloc: Global, out: &mut Vec<u8>, term: &Term) -> Result<(), NoMemory>
     requires typed { IsTyped (tree term.now) }
     requires no_division { HasNoDivision (tree term.now) }
     ensures { OnOk result (out.new.items ≡ out.old.items ++ term_text (tree term.now)) }

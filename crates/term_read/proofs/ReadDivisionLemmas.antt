@@ -12,7 +12,7 @@ use Rattle.term_words.specs.Scopes.{Scope}
 use Rattle.term_words.specs.Operators.{operators, operator_in, operator_of}
 use Rattle.term_read.specs.Reading.{term_from, array_from}
 use Rattle.term_read.specs.Spelling as spelling
-use Rattle.term_read.specs.Spelling.{Words, Heads, extracting, zero_extending, sign_extending}
+use Rattle.term_read.specs.Spelling.{Words, Heads, Spells, extracting, zero_extending, sign_extending}
 use Rattle.term_make.proofs.StepLemmas.{is_made}
 use Rattle.term_make.proofs.AnswerLemmas.{within_is}
 use Rattle.term_read.proofs.SpelledPartLemmas.{OfTerms, any_words, IsSpelledSo, ArrayIsSpelledSo, spelled_so, array_spelled_so}
@@ -69,11 +69,14 @@ module _ (scope : Scope) where
     of_splice = λ f g i h k l wide low. (h, k, l);
   }
 
+-- what is spelled has no division
+pub spelled_whole : (scope : Scope) (n : ℕ) (ws r : Words) (t : Tree) → Spells scope n ws t r → HasNoDivision t
+spelled_whole scope n ws r t s = (spelled_so scope (λ w. ⊤) HasNoDivision (whole_spelled scope) n ws r t s (any_words ws)).0
+
 -- ---- what is read
 
 pub read_whole : (text : Text) (ts : List Token) (from next : ℕ) (scope : Scope) (t : Tree) → term_from text ts from scope ≡ Ok (t, next) → HasNoDivision t
-read_whole text ts from next scope t e =
-    (spelled_so scope (λ w. ⊤) HasNoDivision (whole_spelled scope) 1024 (drop from (lexemes text ts)) (drop next (lexemes text ts)) t (read_is_spelled text ts from next scope t e) (any_words (drop from (lexemes text ts)))).0
+read_whole text ts from next scope t e = spelled_whole scope 1024 (drop from (lexemes text ts)) (drop next (lexemes text ts)) t (read_is_spelled text ts from next scope t e)
 
 pub array_read_whole : (text : Text) (ts : List Token) (from next : ℕ) (scope : Scope) (f : ArrayTree) → array_from text ts from scope ≡ Ok (f, next) → ArrayHasNoDivision f
 array_read_whole text ts from next scope f e =

@@ -11,6 +11,7 @@ use Rattle.term_select.specs.Selecting.{select}
 use Rattle.term_print.specs.Words.{lexemes}
 use Rattle.term_words.specs.Scopes.{Scope, sort_of}
 use Rattle.term_read.specs.Reading.{term_from, array_from}
+use Rattle.term_read.specs.Spelling.{Words, Spells}
 use Rattle.term_round_trip.specs.DeclaredTerms.{IsDeclared, IsDeclaredArray}
 use Rattle.term_print.specs.PrintedLaws.{IsName, HasNames, ArrayHasNames}
 use Rattle.term_make.proofs.AnswerLemmas.{within_is}
@@ -19,7 +20,7 @@ use Rattle.term_read.proofs.SoundLemmas.{read_is_spelled}
 use Rattle.term_read.proofs.ArraySoundLemmas.{read_array_is_spelled}
 use Rattle.term_tree.specs.Variables.{HasVariables, ArrayHasVariables}
 use Rattle.term_make.proofs.VariableLemmas.{make_variables}
-use Rattle.term_read.proofs.SpelledPartLemmas.{OfTerms, IsSpelledSo, ArrayIsSpelledSo, spelled_so, array_spelled_so}
+use Rattle.term_read.proofs.SpelledPartLemmas.{OfTerms, OfWords, IsSpelledSo, ArrayIsSpelledSo, spelled_so, array_spelled_so}
 use Rattle.term_round_trip.proofs.FormedLemmas.{IsFormed, tokens_formed}
 
 module _ (scope : Scope) where
@@ -95,12 +96,17 @@ module _ (scope : Scope) where
       let at = known_parts i h.2 in
       ((inner.0, under.0, at.0), (inner.1, under.1, at.1))
 
+-- what is spelled has such names, declared, and so do the words behind it
+pub spelled_declared : (scope : Scope) (n : ℕ) (ws r : Words) (t : Tree) → Spells scope n ws t r → OfWords IsFormed ws → (HasNames t × IsDeclared scope t) × OfWords IsFormed r
+spelled_declared scope n ws r t s formed =
+    let own = spelled_so scope IsFormed (IsOfKnown scope) (known_spelled scope) n ws r t s formed in
+    (known_parts scope t own.0, own.1)
+
 -- ---- what is read
 
 pub read_declared : (text : Text) (ts : List Token) (from next : ℕ) (scope : Scope) (t : Tree) → cut text ≡ Ok ts → term_from text ts from scope ≡ Ok (t, next) → HasNames t × IsDeclared scope t
 read_declared text ts from next scope t cuts e =
-    known_parts scope t
-    (spelled_so scope IsFormed (IsOfKnown scope) (known_spelled scope) 1024 (drop from (lexemes text ts)) (drop next (lexemes text ts)) t (read_is_spelled text ts from next scope t e) (tokens_formed text ts from cuts)).0
+    (spelled_declared scope 1024 (drop from (lexemes text ts)) (drop next (lexemes text ts)) t (read_is_spelled text ts from next scope t e) (tokens_formed text ts from cuts)).0
 
 pub read_array_declared : (text : Text) (ts : List Token) (from next : ℕ) (scope : Scope) (f : ArrayTree) → cut text ≡ Ok ts → array_from text ts from scope ≡ Ok (f, next) → ArrayHasNames f × IsDeclaredArray scope f
 read_array_declared text ts from next scope f cuts e =

@@ -26,7 +26,7 @@ use Rattle.term_print.proofs.PrintedLemmas.{printed_array_cut, printed_cut}
 -- ---- read back
 
 -- words in a row follow themselves
-follow_all : (ls : Words) → Follows (map (λ (l : Lexeme). l.word) ls) ls []
+pub follow_all : (ls : Words) → Follows (map (λ (l : Lexeme). l.word) ls) ls []
 follow_all [] = refl
 follow_all (l ∷ ls) = (refl, follow_all ls)
 

@@ -12,6 +12,7 @@ use Rattle.term_select.specs.Selecting.{select}
 use Rattle.term_print.specs.Words.{lexemes}
 use Rattle.term_words.specs.Scopes.{Scope}
 use Rattle.term_read.specs.Reading.{term_from, array_from}
+use Rattle.term_read.specs.Spelling.{Words, Spells}
 use Rattle.term_read.specs.ReadingView.{AreTerms, AreWidths}
 use Rattle.term_make.proofs.AnswerLemmas.{within_is, high_asks}
 use Rattle.term_make.proofs.StepLemmas.{make_steps}
@@ -19,7 +20,7 @@ use Rattle.term_make.proofs.TypedLemmas.{make_typed}
 use Rattle.term_read.proofs.ReadingLemmas.{applied_typed, declared_width, variable_term, literal_term}
 use Rattle.term_read.proofs.SoundLemmas.{read_is_spelled}
 use Rattle.term_read.proofs.ArraySoundLemmas.{read_array_is_spelled}
-use Rattle.term_read.proofs.SpelledPartLemmas.{OfTerms, IsSpelledSo, ArrayIsSpelledSo, spelled_so, array_spelled_so}
+use Rattle.term_read.proofs.SpelledPartLemmas.{OfTerms, OfWords, IsSpelledSo, ArrayIsSpelledSo, spelled_so, array_spelled_so}
 use Rattle.term_round_trip.proofs.FormedLemmas.{IsFormed, tokens_formed}
 
 -- ---- what is within the height is not too high
@@ -70,11 +71,15 @@ module _ (scope : Scope) (widths : AreWidths scope) where
     of_splice = λ f g i h k l wide low. record { typed = (h.typed, k.typed, (wide, l.typed)); low = low };
   }
 
+-- what is spelled is a term
+pub spelled_term : (scope : Scope) (n : ℕ) (ws r : Words) (t : Tree) → AreWidths scope → Spells scope n ws t r → OfWords IsFormed ws → IsTerm t
+spelled_term scope n ws r t widths s formed = (spelled_so scope IsFormed IsTerm (term_spelled scope widths) n ws r t s formed).0
+
 -- ---- what is read
 
 pub read_is_term : (text : Text) (ts : List Token) (from next : ℕ) (scope : Scope) (t : Tree) → cut text ≡ Ok ts → AreWidths scope → term_from text ts from scope ≡ Ok (t, next) → IsTerm t
 read_is_term text ts from next scope t cuts widths e =
-    (spelled_so scope IsFormed IsTerm (term_spelled scope widths) 1024 (drop from (lexemes text ts)) (drop next (lexemes text ts)) t (read_is_spelled text ts from next scope t e) (tokens_formed text ts from cuts)).0
+    spelled_term scope 1024 (drop from (lexemes text ts)) (drop next (lexemes text ts)) t widths (read_is_spelled text ts from next scope t e) (tokens_formed text ts from cuts)
 
 pub read_is_array_term : (text : Text) (ts : List Token) (from next : ℕ) (scope : Scope) (f : ArrayTree) → cut text ≡ Ok ts → AreWidths scope → array_from text ts from scope ≡ Ok (f, next) → IsArrayTerm f
 read_is_array_term text ts from next scope f cuts widths e =

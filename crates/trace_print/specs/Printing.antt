@@ -1,7 +1,6 @@
 -- The text of a trace: a line for each event and each end, where the children of an end follow it one after the other.
 use Rattle.std.specs.Prelude.{ℕ, List, [], ◌∷◌, ◌++◌, slice_index_or, codes}
 use Rattle.std.specs.Fmt.{decimal}
-use Rattle.std.specs.Str.Lossy.{utf8_lossy}
 use Rattle.bv_bits.specs.declared.Bits.{Bits}
 use Rattle.lex_core.specs.declared.name.RegDecl.{RegDecl}
 use Rattle.bit_text.specs.Texts.{literal_text}
@@ -42,18 +41,12 @@ failure_text failure.AssumedWritten = codes " assumed_written"
 abbrev pub cases_text : ℕ → Text
 cases_text n = codes "cases" ++ (number_text n ++ 10 ∷ [])
 
--- ---- terms
+-- a term
+abbrev pub spaced : Tree → Text
+spaced t = 32 ∷ term_text t
 
--- how the term prints alone: its text, with U+FFFD in place of what isn't UTF-8 in names
-abbrev pub shown_text : Tree → Text
-shown_text t = utf8_lossy (term_text t)
-
--- ---- traces whose terms print so, over these registers
-module _ (shown : Tree → Text) (registers : List RegDecl) where
-  -- a term, with a space before it
-  abbrev pub spaced : Tree → Text
-  spaced t = 32 ∷ shown t
-
+-- ---- traces over these registers
+module _ (registers : List RegDecl) where
   -- an event
   abbrev pub event_text : Event → Text
   event_text (read_reg r var) = codes "read_reg" ++ (register_text registers r ++ var_text var)

@@ -5,7 +5,7 @@ ghost use Rattle.trace_plain.specs.Printable.{IsPrintableEvent, ArePrintableEven
 ghost use Rattle.trace_plain.specs.View.{event_of};
 ghost use Rattle.trace_print.specs.Printing as spec;
 
-use crate::words::{put, put_register, put_term, put_value, put_var};
+use crate::words::{put, put_register, put_spaced, put_value, put_var};
 use bit_text::put_number;
 use bv_bits::Bits;
 use lex_core::{NoMemory, RegDecl};
@@ -34,7 +34,7 @@ fn put_event(
     event: &PlainEvent,
 ) -> Result<(), NoMemory>
     requires { IsPrintableEvent (length registers.now) (event_of event.now) }
-    ensures { OnOk result (out.new.items ≡ out.old.items ++ spec.event_text spec.shown_text registers.now (event_of event.now)) }
+    ensures { OnOk result (out.new.items ≡ out.old.items ++ spec.event_text registers.now (event_of event.now)) }
 {
     match event {
         PlainEvent::ReadReg { reg, var } => {
@@ -45,27 +45,27 @@ fn put_event(
         PlainEvent::WriteReg { reg, term } => {
             put(out, b"write_reg")?;
             put_register(out, registers, *reg)?;
-            put_term(alloc, out, term)
+            put_spaced(alloc, out, term)
         }
         PlainEvent::ReadMem { var, addr, bytes } => {
             put(out, b"read_mem")?;
             put_var(alloc, out, *var)?;
-            put_term(alloc, out, addr)?;
+            put_spaced(alloc, out, addr)?;
             put_number(alloc, out, *bytes)
         }
         PlainEvent::WriteMem { addr, term, bytes } => {
             put(out, b"write_mem")?;
-            put_term(alloc, out, addr)?;
-            put_term(alloc, out, term)?;
+            put_spaced(alloc, out, addr)?;
+            put_spaced(alloc, out, term)?;
             put_number(alloc, out, *bytes)
         }
         PlainEvent::Assume { term } => {
             put(out, b"assume")?;
-            put_term(alloc, out, term)
+            put_spaced(alloc, out, term)
         }
         PlainEvent::Need { term } => {
             put(out, b"need")?;
-            put_term(alloc, out, term)
+            put_spaced(alloc, out, term)
         }
         PlainEvent::AssumeReg { reg, value } => {
             put(out, b"assume_reg")?;
@@ -82,7 +82,7 @@ pub fn put_events(
     events: &[PlainEvent],
 ) -> Result<(), NoMemory>
     requires { ArePrintableEvents (length registers.now) (map event_of events.now) }
-    ensures { OnOk result (out.new.items ≡ out.old.items ++ spec.events_text spec.shown_text registers.now (map event_of events.now)) }
+    ensures { OnOk result (out.new.items ≡ out.old.items ++ spec.events_text registers.now (map event_of events.now)) }
 {
     for event in events {
         put_event(alloc, out, registers, event)?;

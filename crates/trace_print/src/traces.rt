@@ -3,12 +3,10 @@
 ghost use Rattle.std.specs.Prelude.{◌≡◌, ◌++◌, IfOk, OnOk, length, map, string_bytes};
 ghost use Rattle.std.specs.Str.{IsUtf8};
 ghost use Rattle.std.specs.Str.Lossy.{utf8_lossy};
-ghost use Rattle.term_print.specs.Printing.{term_text};
 ghost use Rattle.trace_plain.specs.Printable.{AreRegisters, IsPrintable, IsPrintableEnd, ArePrintable};
 ghost use Rattle.trace_plain.specs.Trace.{count};
 ghost use Rattle.trace_plain.specs.View.{end_of, trace_of, traces};
 ghost use Rattle.trace_print.specs.Printing as spec;
-ghost use Rattle.trace_plain.specs.Terms.{OfTrace};
 
 use crate::events::put_events;
 use crate::words::{failure_word, put, put_count};
@@ -42,7 +40,7 @@ fn put_trace(
     trace: &PlainTrace,
 ) -> Result<(), NoMemory>
     requires { IsPrintable (length registers.now) (trace_of trace.now) }
-    ensures { OnOk result (out.new.items ≡ out.old.items ++ spec.trace_text spec.shown_text registers.now (trace_of trace.now)) }
+    ensures { OnOk result (out.new.items ≡ out.old.items ++ spec.trace_text registers.now (trace_of trace.now)) }
 {
     put_events(alloc, out, registers, trace.events.as_slice())?;
     put_end(alloc, out, registers, &trace.end)
@@ -57,7 +55,7 @@ fn put_end(
     end: &PlainEnd,
 ) -> Result<(), NoMemory>
     requires { IsPrintableEnd (length registers.now) (end_of end.now) }
-    ensures { OnOk result (out.new.items ≡ out.old.items ++ spec.end_text spec.shown_text registers.now (end_of end.now)) }
+    ensures { OnOk result (out.new.items ≡ out.old.items ++ spec.end_text registers.now (end_of end.now)) }
 {
     match end {
         PlainEnd::Done => put(out, b"done\n"),
@@ -82,7 +80,7 @@ fn put_children(
     children: &[PlainTrace],
 ) -> Result<(), NoMemory>
     requires { ArePrintable (length registers.now) (traces (map trace_of children.now)) }
-    ensures { OnOk result (out.new.items ≡ out.old.items ++ spec.children_text spec.shown_text registers.now (traces (map trace_of children.now))) }
+    ensures { OnOk result (out.new.items ≡ out.old.items ++ spec.children_text registers.now (traces (map trace_of children.now))) }
 {
     for child in children {
         put_trace(alloc, out, registers, child)?;
@@ -95,7 +93,6 @@ fn put_children(
 /// `cases` and how many there are, and the children follow it, one after the other.
 ///
 /// The text is the same bytes where the names in terms are UTF-8, and has U+FFFD in place of what isn't. The time is in proportion to the text.
-#[tactic(auto, using(crate::proofs::SameTextLemmas::exact_text))]
 pub fn print_trace(
     alloc: Global,
     trace: &PlainTrace,
@@ -103,9 +100,8 @@ pub fn print_trace(
 ) -> Result<String, NoMemory>
     requires registers { AreRegisters registers.now }
     requires printable { IsPrintable (length registers.now) (trace_of trace.now) }
-    ensures exact { IfOk result (λ s. OfTrace (λ t. IsUtf8 (term_text t)) (trace_of trace.now) → IsUtf8 (spec.trace_text term_text registers.now (trace_of trace.now))
-        → string_bytes s ≡ spec.trace_text term_text registers.now (trace_of trace.now)) }
-    ensures any_names { IfOk result (λ s. string_bytes s ≡ utf8_lossy (spec.trace_text spec.shown_text registers.now (trace_of trace.now))) }
+    ensures exact { IfOk result (λ s. IsUtf8 (spec.trace_text registers.now (trace_of trace.now)) → string_bytes s ≡ spec.trace_text registers.now (trace_of trace.now)) }
+    ensures any_names { IfOk result (λ s. string_bytes s ≡ utf8_lossy (spec.trace_text registers.now (trace_of trace.now))) }
 {
     let mut out = Vec::new(alloc);
     put_trace(alloc, &mut out, registers, trace)?;

@@ -9,7 +9,7 @@ use bit_text::put_literal;
 use bv_bits::Bits;
 use lex_core::{NoMemory, RegDecl};
 use std::alloc::Global;
-use term_print::print_term;
+use term_print::put_term;
 use term_tree::Term;
 use trace_plain::FailKind;
 
@@ -60,14 +60,12 @@ pub fn put_value(out: &mut Vec<u8>, value: Bits) -> Result<(), NoMemory>
 }
 
 /// Appends a term.
-pub fn put_term(alloc: Global, out: &mut Vec<u8>, term: &Term) -> Result<(), NoMemory>
+pub fn put_spaced(alloc: Global, out: &mut Vec<u8>, term: &Term) -> Result<(), NoMemory>
     requires { HasText (tree term.now) }
-    ensures { OnOk result (out.new.items ≡ out.old.items ++ 32 ∷ spec.shown_text (tree term.now)) }
+    ensures { OnOk result (out.new.items ≡ out.old.items ++ spec.spaced (tree term.now)) }
 {
-    let text = print_term(alloc, term)?;
     out.push(b' ')?;
-    out.extend_from_slice(&text.into_bytes())?;
-    Ok(())
+    put_term(alloc, out, term)
 }
 
 /// Why a path fails.

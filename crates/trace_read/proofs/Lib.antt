@@ -1,0 +1,15 @@
+pub mod BoundLemmas
+pub mod CloseLemmas
+pub mod CompleteLemmas
+pub mod CountLemmas
+pub mod LeadLemmas
+pub mod LineSoundLemmas
+pub mod LoopLemmas
+pub mod RestLemmas
+pub mod RuleLemmas
+pub mod ScopeLemmas
+pub mod SoundLemmas
+pub mod StackLemmas
+pub mod StepLemmas
+pub mod TextLemmas
+pub mod WordSoundLemmas

@@ -1,0 +1,10 @@
+pub mod Gathering
+pub mod Lines
+pub mod Paths
+pub mod Readers
+pub mod Reading
+pub mod Spelling
+pub mod Taking
+pub mod TextLaws
+pub mod WordTables
+pub mod Words

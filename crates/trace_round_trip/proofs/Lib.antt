@@ -1,0 +1,5 @@
+mod AsciiLemmas
+mod LineCutLemmas
+mod PrintedLemmas
+mod SpellLemmas
+mod TraceCutLemmas
